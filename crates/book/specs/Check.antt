@@ -1,0 +1,92 @@
+-- Refusals 5 to 13.
+use mathlib.Core.Bool.{Bool, true, false, not, _&&_, _||_}
+use mathlib.Core.List.{List}
+use Prim.Native.Nat.{ℕ, _+_, _*_, _/_, _%_}
+use lib.IntN.{ℤ, pos, negsuc}
+use lib.Signed.{leZ}
+use lib.ListN.{length}
+use Rattle.words.specs.Words.{_≤?_, _<?_, _=?_, if_then_else_, sumOf}
+use Rattle.wire.specs.Bytes.{M, byteAt, u16At}
+use Rattle.refusal.specs.declared.Checked.{Checked}
+use Rattle.refusal.specs.declared.Refusal.{Refusal}
+use Rattle.refusal.specs.declared.Refusal.the-variants.{BookLength, BookMark, BookVersion, BookCounts, BookAmounts, MitigantCounts}
+use Rattle.refusal.specs.Chain.{refuse_unless_, _andThen_, refuseEach}
+use Rattle.book.specs.declared.Asset.{Asset}
+use Rattle.book.specs.declared.Mitigant.{Mitigant}
+use Rattle.book.specs.Records.{C, N, K, total, base, excluded, counterpartyStart, counterpartyAt, assetAt, mitigantAt}
+use Rattle.book.specs.Fields.{reinsurance, rises}
+use Rattle.book.specs.Book.{Holding, holdingsFrom}
+
+-- "ACB", zero, .. four zeros
+abbrev pub bookMarked : List ℕ → Bool
+bookMarked b =
+    byteAt b 0 =? 65 && byteAt b 1 =? 67 && byteAt b 2 =? 66 && byteAt b 3 =? 0
+    && byteAt b 12 =? 0 && byteAt b 13 =? 0 && byteAt b 14 =? 0 && byteAt b 15 =? 0
+
+-- "C ≤ 500, N ≤ 900, K ≤ 1,500"; "Length is 40 + 4C + 48N + 12K"
+abbrev pub countsFit : List ℕ → Bool
+countsFit b =
+    C b ≤? 500 && N b ≤? 900 && K b ≤? 1500 && length b =? 40 + 4 * C b + 48 * N b + 12 * K b
+
+-- "total or excluded over M, base outside −M to M"
+abbrev pub amountsFit : List ℕ → Bool
+amountsFit b = total b ≤? M && excluded b ≤? M && leZ (negsuc 9_999_999_999_999) (base b) && leZ (base b) (pos M)
+
+-- "u16 parent (0 none, else a lower place); (..) grade 0 to 7 (..) kind (0 .. 4); flags: bit 0, 1, 2"
+unfoldable pub goodCounterparty : List ℕ → ℕ → Bool
+goodCounterparty b place =
+    let at = counterpartyStart place in
+    u16At b at <? place && byteAt b (at + 2) % 16 ≤? 7 && byteAt b (at + 2) / 16 ≤? 4 && byteAt b (at + 3) <? 8
+
+-- "u16 counterparty (1 to C, in mitigants too)"
+abbrev pub inBook : ℕ → ℕ → Bool
+inBook C place = 1 ≤? place && place ≤? C
+
+-- "Only reinsurance (kind 9) may have bit 1, entry, months or stress amounts nonzero"
+abbrev pub noReinsuranceFields : Asset → Bool
+noReinsuranceFields a =
+    not (rises a) && a .entry =? 0 && a .months =? 0 && a .insurance =? 0 && a .combination =? 0
+
+-- "months need a nonzero entry; its offsets are netted liabilities, at most its value"
+abbrev pub reinsuranceFieldsFit : Asset → Bool
+reinsuranceFieldsFit a = (a .months =? 0 || 0 <? a .entry) && a .offsets ≤? a .value
+
+-- "amount over M"
+abbrev pub amountsWithin : Asset → Bool
+amountsWithin a =
+    a .value ≤? M && a .offsets ≤? M && a .deductions ≤? M && a .insurance ≤? M && a .combination ≤? M
+
+-- "kind 1 to 11; flags (bit 0, bit 1); entry class (0 none, 1 e, 2 g)"
+unfoldable pub goodAsset : ℕ → Asset → Bool
+goodAsset C a =
+    1 ≤? a .kind && a .kind ≤? 11 && a .flags <? 4 && a .entry ≤? 2 && inBook C (a .counterparty) && amountsWithin a
+    && (if reinsurance a then reinsuranceFieldsFit a else noReinsuranceFields a)
+
+-- "form (1 cash, .. 5 letter of credit); flags (bit 0, .. 4)"; "mitigant likewise"
+unfoldable pub goodMitigant : ℕ → Mitigant → Bool
+goodMitigant C m =
+    1 ≤? m .form && m .form ≤? 5 && m .flags <? 32 && inBook C (m .counterparty) && m .value ≤? M
+
+-- "counts don't add to K"
+unfoldable pub countsAdd : List ℕ → ℕ
+countsAdd b = sumOf (λ (h : Holding). h .asset .count) (holdingsFrom b 1 1 (N b))
+
+-- 6 to 9 of "What the desk turns back"
+unfoldable pub headerCheck : List ℕ → Checked
+headerCheck b =
+    (refuse BookMark unless bookMarked b)
+    andThen (refuse BookVersion unless u16At b 4 =? 1)
+    andThen (refuse BookCounts unless countsFit b)
+    andThen (refuse BookAmounts unless amountsFit b)
+
+-- 10 to 13
+unfoldable pub recordsCheck : List ℕ → Checked
+recordsCheck b =
+    refuseEach Refusal.Counterparty (goodCounterparty b) (C b)
+    andThen refuseEach Refusal.Asset (λ place. goodAsset (C b) (assetAt b place)) (N b)
+    andThen refuseEach Refusal.Mitigant (λ place. goodMitigant (C b) (mitigantAt b place)) (K b)
+    andThen (refuse MitigantCounts unless countsAdd b =? K b)
+
+-- 5 to 13
+unfoldable pub bookCheck : List ℕ → Checked
+bookCheck b = (refuse BookLength unless 40 ≤? length b) andThen headerCheck b andThen recordsCheck b

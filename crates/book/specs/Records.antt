@@ -1,0 +1,92 @@
+-- "Book": what stands where in its bytes. Only this file and Book know places in the bytes.
+use mathlib.Core.Bool.{Bool, true, false}
+use mathlib.Core.List.{List, [], _∷_}
+use Prim.Native.Nat.{ℕ, zero, suc, _+_, _*_, _-_, _/_, _%_}
+use lib.IntN.{ℤ}
+use Rattle.words.specs.Words.{_=?_, if_then_else_}
+use Rattle.wire.specs.Bytes.{byteAt, u16At, u64At, i64At}
+use Rattle.book.specs.declared.Kind.{Kind}
+use Rattle.book.specs.declared.Kind.the-variants.{Other, Bank, HomeGovernment, ProvincialGovernment, LifeCompany}
+use Rattle.book.specs.declared.Counterparty.{Counterparty}
+use Rattle.book.specs.declared.Asset.{Asset}
+use Rattle.book.specs.declared.Mitigant.{Mitigant}
+
+-- "u16 counterparties C ≤ 500, u16 assets N ≤ 900, u16 mitigants K ≤ 1,500"
+abbrev pub C : List ℕ → ℕ
+C b = u16At b 6
+
+abbrev pub N : List ℕ → ℕ
+N b = u16At b 8
+
+abbrev pub K : List ℕ → ℕ
+K b = u16At b 10
+
+-- "u64 total assets, i64 capital base from −M to M, u64 excluded assets (P20b)"
+abbrev pub total : List ℕ → ℕ
+total b = u64At b 16
+
+abbrev pub base : List ℕ → ℤ
+base b = i64At b 24
+
+abbrev pub excluded : List ℕ → ℕ
+excluded b = u64At b 32
+
+-- where the record of a place starts; "record places from 1"
+abbrev pub counterpartyStart : ℕ → ℕ
+counterpartyStart place = 40 + 4 * (place - 1)
+
+abbrev pub assetStart : List ℕ → ℕ → ℕ
+assetStart b place = 40 + 4 * C b + 48 * (place - 1)
+
+abbrev pub mitigantStart : List ℕ → ℕ → ℕ
+mitigantStart b place = 40 + 4 * C b + 48 * N b + 12 * (place - 1)
+
+-- "0 other, 1 bank, 2 home government, 3 provincial government, 4 registered life company"
+abbrev pub kindOf : ℕ → Kind
+kindOf n =
+    if n =? 1 then Bank
+    else if n =? 2 then HomeGovernment
+    else if n =? 3 then ProvincialGovernment
+    else if n =? 4 then LifeCompany
+    else Other
+
+-- "u16 parent (..); one byte with the grade 0 to 7 in its low four bits (..) and the kind in its high four (..); flags"
+unfoldable pub counterpartyAt : List ℕ → ℕ → Counterparty
+counterpartyAt b place =
+    let at = counterpartyStart place in
+    record {
+      parent = u16At b at;
+      kind = kindOf (byteAt b (at + 2) / 16);
+      grade = byteAt b (at + 2) % 16;
+      flags = byteAt b (at + 3);
+    }
+
+-- "Asset, 48 bytes: kind 1 to 11; flags (..); entry class (..); completed months since downgrade (..); u16 counterparty (..);
+-- u16 count of mitigants; u64 value, offsets, deductions, insurance stress, combination stress"
+unfoldable pub assetAt : List ℕ → ℕ → Asset
+assetAt b place =
+    let at = assetStart b place in
+    record {
+      kind = byteAt b at;
+      flags = byteAt b (at + 1);
+      entry = byteAt b (at + 2);
+      months = byteAt b (at + 3);
+      counterparty = u16At b (at + 4);
+      count = u16At b (at + 6);
+      value = u64At b (at + 8);
+      offsets = u64At b (at + 16);
+      deductions = u64At b (at + 24);
+      insurance = u64At b (at + 32);
+      combination = u64At b (at + 40);
+    }
+
+-- "Mitigant, 12 bytes, in asset order: form (..); flags (..); u16 counterparty; u64 value"
+unfoldable pub mitigantAt : List ℕ → ℕ → Mitigant
+mitigantAt b place =
+    let at = mitigantStart b place in
+    record {
+      form = byteAt b at;
+      flags = byteAt b (at + 1);
+      counterparty = u16At b (at + 2);
+      value = u64At b (at + 4);
+    }

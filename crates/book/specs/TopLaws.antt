@@ -1,0 +1,39 @@
+-- The rule of the topmost parent, without its count of steps.
+use mathlib.Core.Bool.{Bool, true, false}
+use mathlib.Core.Path.{_≡_, refl, sym, ap, _∙_}
+use Prim.Native.Nat.{ℕ, zero, suc, _-_, _≤_}
+use native.Mathlib.Omega.{arith}
+use lib.Dec.{ltb, eqb}
+use borrow.Author.Tests.{ltb-true, eq-eqb}
+use Rattle.words.specs.Words.{if_then_else_}
+use Rattle.book.specs.declared.Counterparty.{Counterparty}
+use Rattle.book.specs.Book.{Book, parentOf, topIn, topOf}
+
+pub parent-lower : (who : ℕ → Counterparty) (p : ℕ) → parentOf who p ≤ p - 1
+unfolding parentOf
+parent-lower who p = by (ltb (who p .parent) p) refl
+  where
+    by : (t : Bool) → ltb (who p .parent) p ≡ t → (if t then who p .parent else 0) ≤ p - 1
+    by true e = omega (arith, ltb-true (who p .parent) p e)
+    by false e = omega arith
+
+root : (who : ℕ → Counterparty) (p : ℕ) → p ≤ 0 → eqb (parentOf who p) 0 ≡ true
+root who p h = eq-eqb (parentOf who p) 0 (omega (arith, parent-lower who p))
+
+agree : (f g : ℕ) (who : ℕ → Counterparty) (p : ℕ) → p ≤ f → p ≤ g → topIn f who p ≡ topIn g who p
+unfolding topIn
+agree zero zero who p h k = refl
+agree zero (suc g) who p h k = rw (root who p h) refl
+agree (suc f) zero who p h k = rw (root who p k) refl
+agree (suc f) (suc g) who p h k =
+    ap (λ (z : ℕ). if eqb (parentOf who p) 0 then p else z)
+    (agree f g who (parentOf who p) (omega (arith, parent-lower who p)) (omega (arith, parent-lower who p)))
+
+-- a place without parent is its own top, any other has its parent's
+pub top-step : (B : Book) (p : ℕ) → topOf B p ≡ (if eqb (parentOf (B .counterparty) p) 0 then p else topOf B (parentOf (B .counterparty) p))
+unfolding topOf topIn
+top-step B zero = rw (root (B .counterparty) 0 (omega arith)) refl
+top-step B (suc n) =
+    let who = B .counterparty in
+    ap (λ (z : ℕ). if eqb (parentOf who (suc n)) 0 then suc n else z)
+    (agree n (parentOf who (suc n)) who (parentOf who (suc n)) (omega (arith, parent-lower who (suc n))) (omega arith))

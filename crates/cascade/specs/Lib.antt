@@ -1,0 +1,3 @@
+pub mod Cascade
+pub mod Cut
+pub mod Promise

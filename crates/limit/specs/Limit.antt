@@ -1,0 +1,32 @@
+-- The limit formula, for any scale of the rates, row and percent (A1, A2).
+--   perMille    the scale of a version 1 schedule's rates
+--   counted     what a capital base counts for
+--   greatest    the greatest of a row's four products
+--   numerator   the exact limit, in parts of a cent that `parts` counts
+--   limitOf     the limit in cents
+use Prim.Native.Nat.{ℕ, _*_, _-_, _/_, max}
+use lib.IntN.{ℤ, pos, negsuc}
+use Rattle.limit.specs.declared.Row.{Row}
+
+-- rates are "per mille"
+abbrev pub perMille : ℕ
+perMille = 1000
+
+-- "a negative base gives nothing"
+abbrev pub counted : ℤ → ℕ
+counted (pos n) = n
+counted (negsuc n) = 0
+
+-- "the greatest of the row's rate × VAF, second rate × VAF, base rate × base (..) and fixed amount", in parts of a cent, `scale` to the cent;
+-- "the first rate's product is lessened by W (..), not below 0"
+unfoldable pub greatest : ℕ → Row → ℕ → ℤ → ℕ → ℕ
+greatest scale row vaf base w =
+    max (max (row .rate * vaf - scale * w) (row .second * vaf)) (max (row .«base_rate» * counted base) (scale * row .fixed))
+
+-- "times the percent kept, exact": in parts of a cent, `scale` × 100 to the cent
+unfoldable pub numerator : ℕ → Row → ℕ → ℕ → ℤ → ℕ → ℕ
+numerator scale row percent vaf base w = greatest scale row vaf base w * percent
+
+-- "rounded down once"
+unfoldable pub limitOf : ℕ → Row → ℕ → ℕ → ℤ → ℕ → ℕ
+limitOf scale row percent vaf base w = numerator scale row percent vaf base w / (scale * 100)

@@ -1,0 +1,28 @@
+-- "Checked by rising number, first bad record first".
+use mathlib.Core.Bool.{Bool, true, false}
+use Prim.Native.Nat.{ℕ, zero, suc, _+_}
+use Rattle.words.specs.Words.{if_then_else_}
+use Rattle.refusal.specs.declared.Refusal.{Refusal}
+use Rattle.refusal.specs.declared.Checked.{Checked}
+use Rattle.refusal.specs.declared.Checked.the-variants.{Fine, Bad}
+
+infix 20 refuse_unless_
+infixr 10 _andThen_
+-- one check
+abbrev pub refuse_unless_ : Refusal → Bool → Checked
+refuse_unless_ why true = Fine
+refuse_unless_ why false = Bad why
+
+-- one check after the other: the first refusal is the answer
+abbrev pub _andThen_ : Checked → Checked → Checked
+_andThen_ Fine next = next
+_andThen_ (Bad why) next = Bad why
+
+-- the first bad record of `more` records from place p on
+unfoldable pub firstBad : (ℕ → Refusal) → (ℕ → Bool) → ℕ → ℕ → Checked
+firstBad why good p zero = Fine
+firstBad why good p (suc more) = (refuse why p unless good p) andThen firstBad why good (p + 1) more
+
+-- "first bad record first", of n records in all; "record places from 1"
+abbrev pub refuseEach : (ℕ → Refusal) → (ℕ → Bool) → ℕ → Checked
+refuseEach why good n = firstBad why good 1 n

@@ -1,0 +1,36 @@
+-- Refusals 1 to 4.
+use mathlib.Core.Bool.{Bool, _&&_}
+use mathlib.Core.List.{List}
+use Prim.Native.Nat.{ℕ}
+use lib.ListN.{length}
+use Rattle.words.specs.Words.{_≤?_, _=?_}
+use Rattle.wire.specs.Bytes.{M, byteAt, u16At}
+use Rattle.limit.specs.declared.Row.{Row}
+use Rattle.refusal.specs.declared.Checked.{Checked}
+use Rattle.refusal.specs.declared.Refusal.the-variants.{ScheduleLength, ScheduleMark, ScheduleVersion, ScheduleRates}
+use Rattle.refusal.specs.Chain.{refuse_unless_, _andThen_}
+use Rattle.schedule.specs.declared.Schedule.{Schedule}
+use Rattle.schedule.specs.Schedule.{scheduleOf}
+
+-- "ACL", a zero byte
+abbrev pub scheduleMarked : List ℕ → Bool
+scheduleMarked s = byteAt s 0 =? 65 && byteAt s 1 =? 67 && byteAt s 2 =? 76 && byteAt s 3 =? 0
+
+-- rates "at most 1,500", fixed amount at most M
+abbrev pub rowFits : Row → Bool
+rowFits r = r .rate ≤? 1500 && r .second ≤? 1500 && r .«base_rate» ≤? 1500 && r .fixed ≤? M
+
+-- "Percents are at most 100"
+abbrev pub ratesFit : Schedule → Bool
+ratesFit s =
+    s .first ≤? 100 && s .second ≤? 100
+    && rowFits (s .c) && rowFits (s .d) && rowFits (s .e) && rowFits (s .f)
+    && rowFits (s .g) && rowFits (s .h) && rowFits (s .i) && rowFits (s .z)
+
+-- 1 to 4 of "What the desk turns back"
+unfoldable pub scheduleCheck : List ℕ → Checked
+scheduleCheck s =
+    (refuse ScheduleLength unless length s =? 122)
+    andThen (refuse ScheduleMark unless scheduleMarked s)
+    andThen (refuse ScheduleVersion unless u16At s 4 =? 1)
+    andThen (refuse ScheduleRates unless ratesFit (scheduleOf s))

@@ -1,0 +1,64 @@
+-- "Schedule, 122 bytes": its fields, and the published one.
+use mathlib.Core.List.{List, [], _∷_, _++_}
+use Prim.Native.Nat.{ℕ, _+_, _*_}
+use lib.ListN.{length}
+use Rattle.words.specs.Words.{eachOf}
+use Rattle.wire.specs.Bytes.{byteAt, u16At, u64At, bytes16, bytes64}
+use Rattle.limit.specs.declared.Row.{Row}
+use Rattle.schedule.specs.declared.Schedule.{Schedule}
+
+-- "14 bytes: u16 VAF rate, u16 second VAF rate, u16 base rate (..), u64 fixed amount"; n is 0 for c, 7 for z
+unfoldable pub rowAt : List ℕ → ℕ → Row
+rowAt s n =
+    record {
+      rate = u16At s (10 + 14 * n);
+      second = u16At s (12 + 14 * n);
+      «base_rate» = u16At s (14 + 14 * n);
+      fixed = u64At s (16 + 14 * n);
+    }
+
+-- "a zero byte, u16 version 1, u16 percent kept (..), u16 after the second, then rows"
+unfoldable pub scheduleOf : List ℕ → Schedule
+scheduleOf s =
+    record {
+      first = u16At s 6;
+      second = u16At s 8;
+      c = rowAt s 0;
+      d = rowAt s 1;
+      e = rowAt s 2;
+      f = rowAt s 3;
+      g = rowAt s 4;
+      h = rowAt s 5;
+      i = rowAt s 6;
+      z = rowAt s 7;
+    }
+
+abbrev row : ℕ → ℕ → ℕ → ℕ → Row
+row rate second base fixed = record { rate = rate; second = second; «base_rate» = base; fixed = fixed }
+
+-- "The published schedule (..): percents 66, 34; rows c 250,0,0; d 500,250,0; e and f 250,0,1250, all four with fixed 2,000,000,000;
+-- g and z 125,0,625; h 50,0,250; i 25,0,125, fixed 0"
+abbrev pub published : Schedule
+published =
+    record {
+      first = 66;
+      second = 34;
+      c = row 250 0 0 2_000_000_000;
+      d = row 500 250 0 2_000_000_000;
+      e = row 250 0 1250 2_000_000_000;
+      f = row 250 0 1250 2_000_000_000;
+      g = row 125 0 625 0;
+      h = row 50 0 250 0;
+      i = row 25 0 125 0;
+      z = row 125 0 625 0;
+    }
+
+-- a row's 14 bytes
+unfoldable pub rowBytes : Row → List ℕ
+rowBytes r = bytes16 (r .rate) ++ bytes16 (r .second) ++ bytes16 (r .«base_rate») ++ bytes64 (r .fixed)
+
+-- a schedule's 122 bytes: "ACL", a zero byte, version 1, percents, rows
+unfoldable pub scheduleBytes : Schedule → List ℕ
+scheduleBytes s =
+    (65 ∷ 67 ∷ 76 ∷ 0 ∷ []) ++ bytes16 1 ++ bytes16 (s .first) ++ bytes16 (s .second)
+    ++ eachOf rowBytes (s .c ∷ s .d ∷ s .e ∷ s .f ∷ s .g ∷ s .h ∷ s .i ∷ s .z ∷ [])

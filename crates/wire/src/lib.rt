@@ -1,0 +1,101 @@
+// Little-endian numbers in byte slices.
+ghost use mathlib.Core.Path.{_≡_};
+ghost use mathlib.Core.List.{_++_, _∷_, []};
+ghost use Prim.Native.Nat.{_+_, _≤_, _<_};
+ghost use lib.ListN.{length, take, drop};
+ghost use Rattle.wire.specs.Bytes.{u16At, u64At, sum16, sum64, i64At, signedOf, bytes16, bytes64, placed};
+
+fn wide16(x: u8) -> u16
+    ensures { λ r. ⌜ (r ≡ x) × (r < 256) ⌝ }
+{
+    x as u16
+}
+
+fn wide(x: u8) -> u64
+    ensures { λ r. ⌜ (r ≡ x) × (r < 256) ⌝ }
+{
+    x as u64
+}
+
+fn sum16_at(s: &[u8], at: usize) -> u16
+    requires { ⌜ at + 2 ≤ length (now s) ⌝ }
+    ensures { λ r. ⌜ r ≡ sum16 (now (s .entry)) at ⌝ }
+{
+    wide16(s[at]) + wide16(s[at + 1]) * 256
+}
+
+fn sum64_at(s: &[u8], at: usize) -> u64
+    requires { ⌜ at + 8 ≤ length (now s) ⌝ }
+    ensures { λ r. ⌜ r ≡ sum64 (now (s .entry)) at ⌝ }
+{
+    wide(s[at])
+        + wide(s[at + 1]) * 256
+        + wide(s[at + 2]) * 65536
+        + wide(s[at + 3]) * 16777216
+        + wide(s[at + 4]) * 4294967296
+        + wide(s[at + 5]) * 1099511627776
+        + wide(s[at + 6]) * 281474976710656
+        + wide(s[at + 7]) * 72057594037927936
+}
+
+// A 64-bit number read as two's complement.
+pub fn signed(u: u64) -> i64
+    ensures { λ r. ⌜ r ≡ signedOf u ⌝ }
+{
+    if u < 9223372036854775808 {
+        u as i64
+    } else {
+        let m = (18446744073709551615 - u) as i64;
+        -1 - m
+    }
+}
+
+pub fn i64_at(s: &[u8], at: usize) -> i64
+    requires { ⌜ at + 8 ≤ length (now s) ⌝ }
+    ensures { λ r. ⌜ r ≡ i64At (now (s .entry)) at ⌝ }
+{
+    signed(u64_at(s, at))
+}
+
+pub fn put_u16(d: &mut [u8], at: usize, v: u16)
+    requires { ⌜ at + 2 ≤ length (now d) ⌝ }
+    ensures { λ _. ⌜ now (d .exit) ≡ placed (now (d .entry)) at (bytes16 v) ⌝ }
+{
+    d[at] = (v % 256) as u8;
+    d[at + 1] = (v / 256) as u8;
+}
+
+pub fn put_u64(d: &mut [u8], at: usize, v: u64)
+    requires { ⌜ at + 8 ≤ length (now d) ⌝ }
+    ensures { λ _. ⌜ now (d .exit) ≡ placed (now (d .entry)) at (bytes64 v) ⌝ }
+{
+    d[at] = (v % 256) as u8;
+    d[at + 1] = (v / 256 % 256) as u8;
+    d[at + 2] = (v / 65536 % 256) as u8;
+    d[at + 3] = (v / 16777216 % 256) as u8;
+    d[at + 4] = (v / 4294967296 % 256) as u8;
+    d[at + 5] = (v / 1099511627776 % 256) as u8;
+    d[at + 6] = (v / 281474976710656 % 256) as u8;
+    d[at + 7] = (v / 72057594037927936) as u8;
+}
+
+pub fn put_u8(d: &mut [u8], at: usize, v: u8)
+    requires { ⌜ at + 1 ≤ length (now d) ⌝ }
+    ensures { λ _. ⌜ now (d .exit) ≡ placed (now (d .entry)) at (v ∷ []) ⌝ }
+{
+    d[at] = v;
+}
+
+pub fn u16_at(s: &[u8], at: usize) -> u16
+    requires { ⌜ at + 2 ≤ length (now s) ⌝ }
+    ensures { λ r. ⌜ r ≡ u16At (now (s .entry)) at ⌝ }
+{
+    sum16_at(s, at)
+}
+
+pub fn u64_at(s: &[u8], at: usize) -> u64
+    requires { ⌜ at + 8 ≤ length (now s) ⌝ }
+    ensures { λ r. ⌜ r ≡ u64At (now (s .entry)) at ⌝ }
+{
+    sum64_at(s, at)
+}
