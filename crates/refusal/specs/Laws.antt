@@ -1,4 +1,5 @@
--- Laws of the chain of checks: then-first, then-rest, unless-fine, each-good say what a chain that found nothing says of its links.
+-- Laws of the chain of checks: then-first, then-rest, unless-fine, each-good say what a chain that found nothing says of its links;
+-- then-assoc that sections can be chained in any grouping.
 use mathlib.Core.Bool.{Bool, true, false}
 use mathlib.Core.Path.{_≡_, refl, sym, ap, _∙_}
 use Prim.Native.Nat.{ℕ, zero, suc, _+_, _≤_, _<_}
@@ -10,18 +11,23 @@ use Rattle.refusal.specs.declared.Checked.{Checked}
 use Rattle.refusal.specs.declared.Checked.the-variants.{Fine, Bad}
 use Rattle.refusal.specs.Chain.{refuse_unless_, _andThen_, firstBad}
 
+-- a refusal is not nothing
+pub bad-fine : {P : Type 0} {why : Refusal} → Bad why ≡ Fine → P
+bad-fine e = absurd (let z : _≡_ {A = ℕ} 0 1 = cc in omega arith)
+
 pub then-first : (a r : Checked) → (a andThen r) ≡ Fine → a ≡ Fine
 then-first Fine r e = refl
-then-first (Bad why) r e = absurd (let z : _≡_ {A = ℕ} 0 1 = cc in omega arith)
+then-first (Bad why) r e = bad-fine e
 
 pub then-rest : (a r : Checked) → (a andThen r) ≡ Fine → r ≡ Fine
 then-rest Fine r e = e
-then-rest (Bad why) r e = absurd (let z : _≡_ {A = ℕ} 0 1 = cc in omega arith)
+then-rest (Bad why) r e = bad-fine e
 
 pub unless-fine : (why : Refusal) (t : Bool) → (refuse why unless t) ≡ Fine → t ≡ true
 unless-fine why true e = refl
-unless-fine why false e = absurd (let z : _≡_ {A = ℕ} 0 1 = cc in omega arith)
+unless-fine why false e = bad-fine e
 
+-- where no record is bad, each one is good
 pub each-good : (why : ℕ → Refusal) (good : ℕ → Bool) (more p : ℕ) → firstBad why good p more ≡ Fine → (q : ℕ) → p ≤ q → q < p + more → good q ≡ true
 unfolding firstBad
 each-good why good zero p e q l h = absurd (omega arith)
@@ -31,3 +37,6 @@ each-good why good (suc more) p e q l h = by (eqb q p) refl (each-good why good 
     by true s r = rw (eqb-true q p s) (unless-fine (why p) (good p) (then-first (refuse why p unless good p) (firstBad why good (p + 1) more) e))
     by false s r = r (omega (arith, eqb-false q p s)) (omega arith)
 
+pub then-assoc : (a b c : Checked) → ((a andThen b) andThen c) ≡ (a andThen (b andThen c))
+then-assoc Fine b c = refl
+then-assoc (Bad why) b c = refl

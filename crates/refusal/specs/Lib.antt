@@ -1,3 +1,4 @@
 pub mod Refusals
 pub mod Chain
 pub mod Laws
+pub mod Numbers

@@ -1,7 +1,10 @@
-// A refusal, by name; what a check finds; what the desk answers; and the chain of checks.
+// A refusal, by name; what a section of checks finds; what the desk answers; and the chain of checks.
 ghost use mathlib.Core.Path.{_≡_};
+ghost use Prim.Native.Nat.{_<_, _≤_};
+ghost use Rattle.refusal.specs.Refusals.{numberOf, placeOf};
 ghost use Rattle.refusal.specs.Chain.{refuse_unless_, _andThen_};
 
+// The refusals in the order of their numbers, 1 to 16. Those of a record carry its place, from 1.
 pub enum Refusal {
     ScheduleLength,
     ScheduleMark,
@@ -21,14 +24,64 @@ pub enum Refusal {
     BufferShort,
 }
 
+// What a section of checks finds.
 pub enum Checked {
     Fine,
     Bad(Refusal),
 }
 
+// The answer: a report with its length, or a refusal.
 pub enum Answer {
     Report(usize),
     Refused(Refusal),
+}
+
+// The refusal's number.
+pub fn number(why: Refusal) -> u64
+    ensures { λ r. ⌜ (r ≡ numberOf why) × (r ≤ 16) ⌝ }
+{
+    match why {
+        Refusal::ScheduleLength => 1,
+        Refusal::ScheduleMark => 2,
+        Refusal::ScheduleVersion => 3,
+        Refusal::ScheduleRates => 4,
+        Refusal::BookLength => 5,
+        Refusal::BookMark => 6,
+        Refusal::BookVersion => 7,
+        Refusal::BookCounts => 8,
+        Refusal::BookAmounts => 9,
+        Refusal::Counterparty(_) => 10,
+        Refusal::Asset(_) => 11,
+        Refusal::Mitigant(_) => 12,
+        Refusal::MitigantCounts => 13,
+        Refusal::ReinsuranceValues => 14,
+        Refusal::StressedAssets => 15,
+        Refusal::BufferShort => 16,
+    }
+}
+
+// The place of the record that is refused, 0 for a refusal of none.
+pub fn place(why: Refusal) -> u64
+    ensures { λ r. ⌜ (r ≡ placeOf why) × (r < 65536) ⌝ }
+{
+    match why {
+        Refusal::ScheduleLength => 0,
+        Refusal::ScheduleMark => 0,
+        Refusal::ScheduleVersion => 0,
+        Refusal::ScheduleRates => 0,
+        Refusal::BookLength => 0,
+        Refusal::BookMark => 0,
+        Refusal::BookVersion => 0,
+        Refusal::BookCounts => 0,
+        Refusal::BookAmounts => 0,
+        Refusal::Counterparty(p) => p as u64,
+        Refusal::Asset(p) => p as u64,
+        Refusal::Mitigant(p) => p as u64,
+        Refusal::MitigantCounts => 0,
+        Refusal::ReinsuranceValues => 0,
+        Refusal::StressedAssets => 0,
+        Refusal::BufferShort => 0,
+    }
 }
 
 // One check: a refusal where the test fails.

@@ -1,11 +1,12 @@
--- What is read back of what was placed. Assumes nothing.
+-- What is read back of what was placed: u16-in, u64-in read a number off a longer list; u16-back, u64-back, i64-back what was written;
+-- placed-more, then-placed join what is placed one after the other.
 use mathlib.Core.Path.{_≡_, refl, sym, ap, ap₂, subst, _∙_}
 use mathlib.Core.List.{List, [], _∷_, _++_, append-assoc}
 use Prim.Native.Nat.{ℕ, suc, _+_, _*_, _/_, _%_, _≤_, _<_}
 use native.Mathlib.Omega.{arith}
 use lib.ListN.{length, getD, take, drop, length-append, List·getD-append}
 use lib.Seq.{getD-append-add, length-take-le, take-at, drop-at, drop-drop}
-use Rattle.wire.specs.Bytes.{placed, u16At, u64At, bytes16, bytes64}
+use Rattle.wire.specs.Bytes.{placed, u16At, u64At, i64At, signedOf, bytes16, bytes64}
 
 -- what stands in the middle of a list, read at its place
 module _ (a vs b : List ℕ) (at : ℕ) (e : length a ≡ at) where
@@ -25,6 +26,7 @@ digits : (v b0 b1 b2 b3 b4 b5 b6 q1 q2 q3 q4 q5 q6 q7 : ℕ)
     → b0 + b1 * 256 + b2 * 65536 + b3 * 16777216 + b4 * 4294967296 + b5 * 1099511627776 + b6 * 281474976710656 + q7 * 72057594037927936 ≡ v
 digits v b0 b1 b2 b3 b4 b5 b6 q1 q2 q3 q4 q5 q6 q7 e1 e2 e3 e4 e5 e6 e7 = omega arith
 
+-- a number is the sum of its bytes
 pub number : (v : ℕ)
     → v % 256 + v / 256 % 256 * 256 + v / 65536 % 256 * 65536 + v / 16777216 % 256 * 16777216 + v / 4294967296 % 256 * 4294967296
     + v / 1099511627776 % 256 * 1099511627776 + v / 281474976710656 % 256 * 281474976710656 + v / 72057594037927936 * 72057594037927936 ≡ v
@@ -32,6 +34,7 @@ number v =
     digits v _ _ _ _ _ _ _ (v / 256) (v / 65536) (v / 16777216) (v / 4294967296) (v / 1099511627776) (v / 281474976710656) (v / 72057594037927936)
     (omega arith) (omega arith) (omega arith) (omega arith) (omega arith) (omega arith) (omega arith)
 
+-- a number that was written in the middle of a list
 module _ (a b : List ℕ) (at v : ℕ) (e : length a ≡ at) where
   pub u16-in : u16At (a ++ bytes16 v ++ b) at ≡ v
   unfolding u16At
@@ -50,6 +53,10 @@ u64-back l at v h = u64-in (take at l) (drop (at + 8) l) at v (length-take-le at
 
 pub u16-back : (l : List ℕ) (at v : ℕ) → at + 2 ≤ length l → u16At (placed l at (bytes16 v)) at ≡ v
 u16-back l at v h = u16-in (take at l) (drop (at + 2) l) at v (length-take-le at l (omega arith))
+
+pub i64-back : (l : List ℕ) (at v : ℕ) → at + 8 ≤ length l → i64At (placed l at (bytes64 v)) at ≡ signedOf v
+unfolding i64At
+i64-back l at v h = ap signedOf (u64-back l at v h)
 
 -- what is placed right after what was placed is placed with it
 pub placed-more : (l a b : List ℕ) (at : ℕ) → at + length a + length b ≤ length l → placed (placed l at a) (at + length a) b ≡ placed l at (a ++ b)

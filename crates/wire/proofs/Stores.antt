@@ -1,4 +1,4 @@
--- What a run of stores at at, at + 1, at + 2, .. leaves, for any number of them. Assumes nothing.
+-- What a run of stores at `at`, at + 1, at + 2, .. leaves, for any number of them: what `placed` says.
 use mathlib.Core.Path.{_≡_, refl, sym, ap, subst, _∙_}
 use mathlib.Core.List.{List, [], _∷_, _++_}
 use Prim.Native.Nat.{ℕ, suc, _+_, _≤_}
@@ -13,6 +13,7 @@ abbrev pub from : List ℕ → ℕ → ℕ → List ℕ → List ℕ
 from l at k [] = l
 from l at k (a ∷ vs) = from (set l (at + k) a) at (suc k) vs
 
+-- stores at `at`, at + 1, ..
 abbrev pub stores : List ℕ → ℕ → List ℕ → List ℕ
 stores l at [] = l
 stores l at (a ∷ vs) = from (set l at a) at 1 vs

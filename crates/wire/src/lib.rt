@@ -1,9 +1,9 @@
-// Little-endian numbers in byte slices.
+// Little-endian numbers in byte slices: read at a place, written at a place.
 ghost use mathlib.Core.Path.{_≡_};
-ghost use mathlib.Core.List.{_++_, _∷_, []};
+ghost use mathlib.Core.List.{_∷_, []};
 ghost use Prim.Native.Nat.{_+_, _≤_, _<_};
-ghost use lib.ListN.{length, take, drop};
-ghost use Rattle.wire.specs.Bytes.{u16At, u64At, sum16, sum64, i64At, signedOf, bytes16, bytes64, placed};
+ghost use lib.ListN.{length};
+ghost use Rattle.wire.specs.Bytes.{u16At, u64At, i64At, sum16, sum64, signedOf, bytes16, bytes64, placed};
 
 fn wide16(x: u8) -> u16
     ensures { λ r. ⌜ (r ≡ x) × (r < 256) ⌝ }
@@ -11,7 +11,7 @@ fn wide16(x: u8) -> u16
     x as u16
 }
 
-fn wide(x: u8) -> u64
+fn wide64(x: u8) -> u64
     ensures { λ r. ⌜ (r ≡ x) × (r < 256) ⌝ }
 {
     x as u64
@@ -24,22 +24,39 @@ fn sum16_at(s: &[u8], at: usize) -> u16
     wide16(s[at]) + wide16(s[at + 1]) * 256
 }
 
+// The compiler makes one 8-byte load of this sum.
 fn sum64_at(s: &[u8], at: usize) -> u64
     requires { ⌜ at + 8 ≤ length (now s) ⌝ }
     ensures { λ r. ⌜ r ≡ sum64 (now (s .entry)) at ⌝ }
 {
-    wide(s[at])
-        + wide(s[at + 1]) * 256
-        + wide(s[at + 2]) * 65536
-        + wide(s[at + 3]) * 16777216
-        + wide(s[at + 4]) * 4294967296
-        + wide(s[at + 5]) * 1099511627776
-        + wide(s[at + 6]) * 281474976710656
-        + wide(s[at + 7]) * 72057594037927936
+    wide64(s[at])
+        + wide64(s[at + 1]) * 256
+        + wide64(s[at + 2]) * 65536
+        + wide64(s[at + 3]) * 16777216
+        + wide64(s[at + 4]) * 4294967296
+        + wide64(s[at + 5]) * 1099511627776
+        + wide64(s[at + 6]) * 281474976710656
+        + wide64(s[at + 7]) * 72057594037927936
+}
+
+// The u16 at a place.
+pub fn u16_at(s: &[u8], at: usize) -> u16
+    requires { ⌜ at + 2 ≤ length (now s) ⌝ }
+    ensures { λ r. ⌜ r ≡ u16At (now (s .entry)) at ⌝ }
+{
+    sum16_at(s, at)
+}
+
+// The u64 at a place.
+pub fn u64_at(s: &[u8], at: usize) -> u64
+    requires { ⌜ at + 8 ≤ length (now s) ⌝ }
+    ensures { λ r. ⌜ r ≡ u64At (now (s .entry)) at ⌝ }
+{
+    sum64_at(s, at)
 }
 
 // A 64-bit number read as two's complement.
-pub fn signed(u: u64) -> i64
+fn signed(u: u64) -> i64
     ensures { λ r. ⌜ r ≡ signedOf u ⌝ }
 {
     if u < 9223372036854775808 {
@@ -50,6 +67,7 @@ pub fn signed(u: u64) -> i64
     }
 }
 
+// The i64 at a place.
 pub fn i64_at(s: &[u8], at: usize) -> i64
     requires { ⌜ at + 8 ≤ length (now s) ⌝ }
     ensures { λ r. ⌜ r ≡ i64At (now (s .entry)) at ⌝ }
@@ -57,6 +75,15 @@ pub fn i64_at(s: &[u8], at: usize) -> i64
     signed(u64_at(s, at))
 }
 
+// A byte put at a place; every other byte stays.
+pub fn put_u8(d: &mut [u8], at: usize, v: u8)
+    requires { ⌜ at + 1 ≤ length (now d) ⌝ }
+    ensures { λ _. ⌜ now (d .exit) ≡ placed (now (d .entry)) at (v ∷ []) ⌝ }
+{
+    d[at] = v;
+}
+
+// A u16 put at a place; every other byte stays.
 pub fn put_u16(d: &mut [u8], at: usize, v: u16)
     requires { ⌜ at + 2 ≤ length (now d) ⌝ }
     ensures { λ _. ⌜ now (d .exit) ≡ placed (now (d .entry)) at (bytes16 v) ⌝ }
@@ -65,6 +92,7 @@ pub fn put_u16(d: &mut [u8], at: usize, v: u16)
     d[at + 1] = (v / 256) as u8;
 }
 
+// A u64 put at a place; every other byte stays. The compiler makes one 8-byte store of this.
 pub fn put_u64(d: &mut [u8], at: usize, v: u64)
     requires { ⌜ at + 8 ≤ length (now d) ⌝ }
     ensures { λ _. ⌜ now (d .exit) ≡ placed (now (d .entry)) at (bytes64 v) ⌝ }
@@ -77,25 +105,4 @@ pub fn put_u64(d: &mut [u8], at: usize, v: u64)
     d[at + 5] = (v / 1099511627776 % 256) as u8;
     d[at + 6] = (v / 281474976710656 % 256) as u8;
     d[at + 7] = (v / 72057594037927936) as u8;
-}
-
-pub fn put_u8(d: &mut [u8], at: usize, v: u8)
-    requires { ⌜ at + 1 ≤ length (now d) ⌝ }
-    ensures { λ _. ⌜ now (d .exit) ≡ placed (now (d .entry)) at (v ∷ []) ⌝ }
-{
-    d[at] = v;
-}
-
-pub fn u16_at(s: &[u8], at: usize) -> u16
-    requires { ⌜ at + 2 ≤ length (now s) ⌝ }
-    ensures { λ r. ⌜ r ≡ u16At (now (s .entry)) at ⌝ }
-{
-    sum16_at(s, at)
-}
-
-pub fn u64_at(s: &[u8], at: usize) -> u64
-    requires { ⌜ at + 8 ≤ length (now s) ⌝ }
-    ensures { λ r. ⌜ r ≡ u64At (now (s .entry)) at ⌝ }
-{
-    sum64_at(s, at)
 }

@@ -1,3 +1,4 @@
+-- `refusal::and_then` meets its contract, by the case of the first.
 use borrow.Author.Needs.{needs}
 use Rattle.refusal.proofs.and_then.Statement.{statement}
 use Rattle.refusal.proofs.and_then.Tie as tie

@@ -1,3 +1,4 @@
+-- `refusal::unless` meets its contract, by the test.
 use borrow.Author.Needs.{needs}
 use Rattle.refusal.proofs.unless.Statement.{statement}
 use Rattle.refusal.proofs.unless.Tie as tie

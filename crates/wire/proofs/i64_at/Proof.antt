@@ -1,3 +1,4 @@
+-- `wire::i64_at` meets its contract: the u64 there, read as two's complement.
 use mathlib.Core.Path.{ap, _∙_}
 use mir.Syntax.{w64}
 use mir.Facts.{toZ-ofZ}

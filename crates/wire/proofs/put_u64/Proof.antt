@@ -1,3 +1,4 @@
+-- `wire::put_u64` meets its contract: a run of eight stores.
 use borrow.Author.Needs.{needs}
 use native.Mathlib.Omega.{arith}
 use lib.ListN.{length-set}

@@ -1,4 +1,4 @@
--- `le::put_u8` meets its contract. Assumes nothing.
+-- `wire::put_u8` meets its contract: a run of one store.
 use mathlib.Core.List.{_∷_, []}
 use borrow.Author.Needs.{needs}
 use Rattle.wire.proofs.Stores.{stored}

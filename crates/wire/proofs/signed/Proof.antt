@@ -1,4 +1,4 @@
--- `wire::signed` meets its contract: a cast reads the bits by the definition's own test.
+-- `wire::signed` meets its contract: the code tests what the definition tests.
 use borrow.Author.Needs.{needs}
 use mathlib.Core.Path.{_≡_, refl, sym, ap, subst, _∙_}
 use Prim.Native.Nat.{ℕ, zero, suc, _<_, _≤_, _-_}

@@ -1,3 +1,4 @@
+-- `wire::u16_at` meets its contract: the sum, under its name.
 use Rattle.wire.specs.Bytes.{u16At}
 use borrow.Author.Needs.{needs}
 use Rattle.wire.proofs.u16_at.Statement.{statement}

@@ -1,3 +1,4 @@
+-- `wire::u64_at` meets its contract: the sum, under its name.
 use Rattle.wire.specs.Bytes.{u64At}
 use borrow.Author.Needs.{needs}
 use Rattle.wire.proofs.u64_at.Statement.{statement}

@@ -1,0 +1,21 @@
+-- The refusals' numbers and places, computed: one for each row of document 01's table, and the place of a record where there is one.
+use mathlib.Core.List.{List, [], _∷_, map}
+use mathlib.Core.Path.{_≡_, refl}
+use Prim.Native.Nat.{ℕ}
+use Rattle.words.specs.Words.{countFrom}
+use Rattle.refusal.specs.declared.Refusal.{Refusal}
+use Rattle.refusal.specs.declared.Refusal.the-variants.{ScheduleLength, ScheduleMark, ScheduleVersion, ScheduleRates, BookLength, BookMark, BookVersion, BookCounts, BookAmounts, Counterparty, Asset, Mitigant, MitigantCounts, ReinsuranceValues, StressedAssets, BufferShort}
+use Rattle.refusal.specs.Refusals.{numberOf, placeOf}
+
+-- the table's rows, those of a record at places 7, 8 and 9
+abbrev rows : List Refusal
+rows =
+    ScheduleLength ∷ ScheduleMark ∷ ScheduleVersion ∷ ScheduleRates ∷ BookLength ∷ BookMark ∷ BookVersion ∷ BookCounts ∷ BookAmounts
+    ∷ Counterparty 7 ∷ Asset 8 ∷ Mitigant 9 ∷ MitigantCounts ∷ ReinsuranceValues ∷ StressedAssets ∷ BufferShort ∷ []
+
+pub numbers : map numberOf rows ≡ countFrom 1 16
+unfolding countFrom
+numbers = refl
+
+pub places : map placeOf rows ≡ 0 ∷ 0 ∷ 0 ∷ 0 ∷ 0 ∷ 0 ∷ 0 ∷ 0 ∷ 0 ∷ 7 ∷ 8 ∷ 9 ∷ 0 ∷ 0 ∷ 0 ∷ 0 ∷ []
+places = refl
