@@ -1,8 +1,8 @@
 -- The limit formula, for any scale of the rates, row and percent (A1, A2).
 --   perMille    the scale of a version 1 schedule's rates
 --   counted     what a capital base counts for
---   greatest    the greatest of a row's four products
---   numerator   the exact limit, in parts of a cent that `parts` counts
+--   greatest    the greatest of a row's four products, in parts of a cent, scale to the cent
+--   numerator   the exact limit, in parts of a cent, scale × 100 to the cent
 --   limitOf     the limit in cents
 use Prim.Native.Nat.{ℕ, _*_, _-_, _/_, max}
 use lib.IntN.{ℤ, pos, negsuc}

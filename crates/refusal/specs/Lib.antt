@@ -1,4 +1,5 @@
 pub mod Refusals
 pub mod Chain
 pub mod Laws
+pub mod Search
 pub mod Numbers

@@ -1,4 +1,8 @@
--- "Schedule, 122 bytes": its fields, and the published one.
+-- "Schedule, 122 bytes".
+--   rowAt scheduleOf          a row and a schedule from bytes
+--   rowsOf                    a schedule's rows in their order
+--   published                 the published schedule
+--   mark rowBytes headBytes scheduleBytes    a schedule's bytes
 use mathlib.Core.List.{List, [], _∷_, _++_}
 use Prim.Native.Nat.{ℕ, _+_, _*_}
 use lib.ListN.{length}
@@ -33,6 +37,11 @@ scheduleOf s =
       z = rowAt s 7;
     }
 
+-- "rows c, d, e, f, g, h, i, z"
+abbrev pub rowsOf : Schedule → List Row
+rowsOf s = s .c ∷ s .d ∷ s .e ∷ s .f ∷ s .g ∷ s .h ∷ s .i ∷ s .z ∷ []
+
+-- a row of its four numbers
 abbrev row : ℕ → ℕ → ℕ → ℕ → Row
 row rate second base fixed = record { rate = rate; second = second; «base_rate» = base; fixed = fixed }
 
@@ -53,12 +62,18 @@ published =
       z = row 125 0 625 0;
     }
 
+-- "ACL", a zero byte
+abbrev pub mark : List ℕ
+mark = 65 ∷ 67 ∷ 76 ∷ 0 ∷ []
+
 -- a row's 14 bytes
 unfoldable pub rowBytes : Row → List ℕ
 rowBytes r = bytes16 (r .rate) ++ bytes16 (r .second) ++ bytes16 (r .«base_rate») ++ bytes64 (r .fixed)
 
--- a schedule's 122 bytes: "ACL", a zero byte, version 1, percents, rows
+-- a schedule's first 10 bytes: "ACL", a zero byte, version 1, percents
+unfoldable pub headBytes : Schedule → List ℕ
+headBytes s = mark ++ bytes16 1 ++ bytes16 (s .first) ++ bytes16 (s .second)
+
+-- its 122 bytes: "then rows"
 unfoldable pub scheduleBytes : Schedule → List ℕ
-scheduleBytes s =
-    (65 ∷ 67 ∷ 76 ∷ 0 ∷ []) ++ bytes16 1 ++ bytes16 (s .first) ++ bytes16 (s .second)
-    ++ eachOf rowBytes (s .c ∷ s .d ∷ s .e ∷ s .f ∷ s .g ∷ s .h ∷ s .i ∷ s .z ∷ [])
+scheduleBytes s = headBytes s ++ eachOf rowBytes (rowsOf s)

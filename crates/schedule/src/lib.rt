@@ -1,5 +1,23 @@
-// A schedule of rates.
+// A schedule of rates: the published one, one from bytes, refusals 1 to 4, and the limits that it gives a fund.
 use limit::Row;
+use refusal::Checked;
+use refusal::Refusal;
+ghost use mathlib.Core.Path.{_≡_};
+ghost use Prim.Native.Nat.{_+_, _*_, _≤_, _<_};
+ghost use lib.ListN.{length};
+ghost use Rattle.words.specs.Words.{eachOf};
+ghost use Rattle.wire.specs.Bytes.{M, u16At, placed};
+ghost use Rattle.limit.specs.Limit.{counted};
+ghost use Rattle.limit.specs.Bounds.{mostLimit, RowFits};
+ghost use Rattle.schedule.specs.Schedule.{rowAt, scheduleOf, rowsOf, published, mark, rowBytes, headBytes, scheduleBytes};
+ghost use Rattle.schedule.specs.Check.{scheduleMarked, rowFits, ratesFit, fieldsCheck, scheduleCheck};
+ghost use Rattle.schedule.specs.Fits.{RatesFit};
+ghost use Rattle.schedule.specs.Tiers.{limits, a3LimitOf};
+
+const VERSION: u16 = 1;
+
+// M, in cents: the most that an amount read may be.
+const MOST_AMOUNT: u64 = 10000000000000;
 
 // "percent kept after the first downgrade step, (..) after the second, then rows c, d, e, f, g, h, i, z"
 pub struct Schedule {
@@ -13,4 +31,263 @@ pub struct Schedule {
     pub h: Row,
     pub i: Row,
     pub z: Row,
+}
+
+// The published schedule (A1 to A3): percents kept, and rows c, d, e, f, g, h, i, z.
+pub const FIRST: u64 = 66;
+
+pub const SECOND: u64 = 34;
+
+pub const ROWS: [Row; 8] = [
+    // c
+    Row {
+        rate: 250,
+        second: 0,
+        base_rate: 0,
+        fixed: 2000000000,
+    },
+    // d
+    Row {
+        rate: 500,
+        second: 250,
+        base_rate: 0,
+        fixed: 2000000000,
+    },
+    // e
+    Row {
+        rate: 250,
+        second: 0,
+        base_rate: 1250,
+        fixed: 2000000000,
+    },
+    // f
+    Row {
+        rate: 250,
+        second: 0,
+        base_rate: 1250,
+        fixed: 2000000000,
+    },
+    // g
+    Row {
+        rate: 125,
+        second: 0,
+        base_rate: 625,
+        fixed: 0,
+    },
+    // h
+    Row {
+        rate: 50,
+        second: 0,
+        base_rate: 250,
+        fixed: 0,
+    },
+    // i
+    Row {
+        rate: 25,
+        second: 0,
+        base_rate: 125,
+        fixed: 0,
+    },
+    // z
+    Row {
+        rate: 125,
+        second: 0,
+        base_rate: 625,
+        fixed: 0,
+    },
+];
+
+pub fn published() -> Schedule
+    ensures { λ r. ⌜ r ≡ published ⌝ }
+{
+    let rows = ROWS;
+    Schedule {
+        first: FIRST,
+        second: SECOND,
+        c: rows[0],
+        d: rows[1],
+        e: rows[2],
+        f: rows[3],
+        g: rows[4],
+        h: rows[5],
+        i: rows[6],
+        z: rows[7],
+    }
+}
+
+// A rate or percent: a u16.
+fn rate_at(s: &[u8], at: usize) -> u64
+    requires { ⌜ at + 2 ≤ length (now s) ⌝ }
+    ensures { λ r. ⌜ r ≡ u16At (now (s .entry)) at ⌝ }
+{
+    wire::u16_at(s, at) as u64
+}
+
+// Row n of a schedule: 0 is c, 7 is z.
+fn row_at(s: &[u8], n: usize) -> Row
+    requires { ⌜ (n < 8) × (122 ≤ length (now s)) ⌝ }
+    ensures { λ r. ⌜ r ≡ rowAt (now (s .entry)) n ⌝ }
+{
+    Row {
+        rate: rate_at(s, 10 + 14 * n),
+        second: rate_at(s, 12 + 14 * n),
+        base_rate: rate_at(s, 14 + 14 * n),
+        fixed: wire::u64_at(s, 16 + 14 * n),
+    }
+}
+
+// The schedule of 122 bytes.
+pub fn schedule_at(s: &[u8]) -> Schedule
+    requires { ⌜ 122 ≤ length (now s) ⌝ }
+    ensures { λ r. ⌜ r ≡ scheduleOf (now (s .entry)) ⌝ }
+{
+    Schedule {
+        first: rate_at(s, 6),
+        second: rate_at(s, 8),
+        c: row_at(s, 0),
+        d: row_at(s, 1),
+        e: row_at(s, 2),
+        f: row_at(s, 3),
+        g: row_at(s, 4),
+        h: row_at(s, 5),
+        i: row_at(s, 6),
+        z: row_at(s, 7),
+    }
+}
+
+// "ACL", a zero byte.
+fn marked(s: &[u8]) -> bool
+    requires { ⌜ 122 ≤ length (now s) ⌝ }
+    ensures { λ r. ⌜ r ≡ scheduleMarked (now (s .entry)) ⌝ }
+{
+    (s[0] == b'A') & (s[1] == b'C') & (s[2] == b'L') & (s[3] == 0)
+}
+
+fn row_fits(row: Row) -> bool
+    ensures { λ r. ⌜ r ≡ rowFits row ⌝ }
+{
+    (row.rate <= limit::MOST_RATE)
+        & (row.second <= limit::MOST_RATE)
+        & (row.base_rate <= limit::MOST_RATE)
+        & (row.fixed <= MOST_AMOUNT)
+}
+
+fn rates_fit(s: Schedule) -> bool
+    ensures { λ r. ⌜ r ≡ ratesFit s ⌝ }
+{
+    (s.first <= 100)
+        & (s.second <= 100)
+        & row_fits(s.c)
+        & row_fits(s.d)
+        & row_fits(s.e)
+        & row_fits(s.f)
+        & row_fits(s.g)
+        & row_fits(s.h)
+        & row_fits(s.i)
+        & row_fits(s.z)
+}
+
+// Refusals 2 to 4, of a schedule that has its length.
+fn check_fields(s: &[u8]) -> Checked
+    requires { ⌜ 122 ≤ length (now s) ⌝ }
+    ensures { λ r. ⌜ r ≡ fieldsCheck (now (s .entry)) ⌝ }
+{
+    let mark = refusal::unless(Refusal::ScheduleMark, marked(s));
+    let version = refusal::unless(Refusal::ScheduleVersion, wire::u16_at(s, 4) == VERSION);
+    let rates = refusal::unless(Refusal::ScheduleRates, rates_fit(schedule_at(s)));
+    refusal::and_then(mark, refusal::and_then(version, rates))
+}
+
+// Refusals 1 to 4, of any bytes.
+pub fn check(s: &[u8]) -> Checked
+    ensures { λ r. ⌜ r ≡ scheduleCheck (now (s .entry)) ⌝ }
+{
+    if s.len() != 122 {
+        return Checked::Bad(Refusal::ScheduleLength);
+    }
+    check_fields(s)
+}
+
+// The thirteen limits of a fund, by tier number; `stressed` is VAF′.
+pub fn limits(s: Schedule, vaf: u64, stressed: u64, base: i64, w: u64) -> [u64; 13]
+    requires { ⌜ RatesFit s ⌝ }
+    requires { ⌜ (vaf ≤ M) × (stressed ≤ M) × (counted base ≤ M) ⌝ }
+    ensures { λ r. ⌜ r ≡ limits s vaf stressed base w ⌝ }
+{
+    [
+        limit::limit(s.i, 100, vaf, base, 0),
+        limit::limit(s.i, 100, stressed, base, 0),
+        limit::limit(s.h, 100, vaf, base, 0),
+        limit::limit(s.h, 100, stressed, base, 0),
+        limit::limit(s.g, s.second, stressed, base, 0),
+        limit::limit(s.g, s.first, stressed, base, 0),
+        limit::limit(s.g, 100, stressed, base, 0),
+        limit::limit(s.e, s.second, stressed, base, 0),
+        limit::limit(s.e, s.first, stressed, base, 0),
+        limit::limit(s.e, 100, stressed, base, 0),
+        limit::limit(s.f, 100, vaf, base, 0),
+        limit::limit(s.c, 100, vaf, base, 0),
+        limit::limit(s.d, 100, vaf, base, w),
+    ]
+}
+
+// The A3 limit of a fund; `stressed` is VAF′.
+pub fn a3_limit(s: Schedule, stressed: u64, base: i64) -> u64
+    requires { ⌜ RatesFit s ⌝ }
+    requires { ⌜ (stressed ≤ M) × (counted base ≤ M) ⌝ }
+    ensures { λ r. ⌜ (r ≡ a3LimitOf s stressed base) × (r ≤ mostLimit) ⌝ }
+{
+    limit::limit(s.z, 100, stressed, base, 0)
+}
+
+// "ACL", a zero byte.
+fn put_mark(d: &mut [u8])
+    requires { ⌜ 4 ≤ length (now d) ⌝ }
+    ensures { λ _. ⌜ now (d .exit) ≡ placed (now (d .entry)) 0 mark ⌝ }
+{
+    d[0] = b'A';
+    d[1] = b'C';
+    d[2] = b'L';
+    d[3] = 0;
+}
+
+// The published schedule's bytes before its rows.
+fn put_head(d: &mut [u8])
+    requires { ⌜ 10 ≤ length (now d) ⌝ }
+    ensures { λ _. ⌜ now (d .exit) ≡ placed (now (d .entry)) 0 (headBytes published) ⌝ }
+{
+    put_mark(d);
+    wire::put_u16(d, 4, VERSION);
+    wire::put_u16(d, 6, FIRST as u16);
+    wire::put_u16(d, 8, SECOND as u16);
+}
+
+fn put_row(d: &mut [u8], at: usize, row: Row)
+    requires { ⌜ RowFits row ⌝ }
+    requires { ⌜ at + 14 ≤ length (now d) ⌝ }
+    ensures { λ _. ⌜ now (d .exit) ≡ placed (now (d .entry)) at (rowBytes row) ⌝ }
+{
+    wire::put_u16(d, at, row.rate as u16);
+    wire::put_u16(d, at + 2, row.second as u16);
+    wire::put_u16(d, at + 4, row.base_rate as u16);
+    wire::put_u64(d, at + 6, row.fixed);
+}
+
+// The published schedule's rows.
+fn put_rows(d: &mut [u8])
+    requires { ⌜ 122 ≤ length (now d) ⌝ }
+    ensures { λ _. ⌜ now (d .exit) ≡ placed (now (d .entry)) 10 (eachOf rowBytes (rowsOf published)) ⌝ }
+{
+    for n in 0..8 {
+        put_row(d, 10 + 14 * n, ROWS[n]);
+    }
+}
+
+// The published schedule's 122 bytes.
+pub fn put_published(d: &mut [u8])
+    requires { ⌜ 122 ≤ length (now d) ⌝ }
+    ensures { λ _. ⌜ now (d .exit) ≡ placed (now (d .entry)) 0 (scheduleBytes published) ⌝ }
+{
+    put_head(d);
+    put_rows(d);
 }

@@ -74,3 +74,13 @@ placed-more l a b at h =
 pub then-placed : (l a b : List ℕ) (at k : ℕ) {l₁ l₂ : List ℕ} → l₁ ≡ placed l at a → l₂ ≡ placed l₁ (at + k) b → length a ≡ k → at + k + length b ≤ length l → l₂ ≡ placed l at (a ++ b)
 then-placed l a b at k e₁ e₂ n h =
     e₂ ∙ ap (λ (x : List ℕ). placed x (at + k) b) e₁ ∙ ap (λ (j : ℕ). placed (placed l at a) (at + j) b) (sym n) ∙ placed-more l a b at (omega arith)
+
+-- what is placed right before what was placed, at the start, is placed with it
+pub placed-before : (l a b : List ℕ) → length a + length b ≤ length l → placed (placed l (length a) b) 0 a ≡ placed l 0 (a ++ b)
+placed-before l a b h =
+    let rest = drop (length a + length b) l in
+    let m : length a + length b ≡ 0 + length (a ++ b) = omega (arith, length-append a b) in
+    let z : 0 + length a ≡ length a = omega arith in
+    ap (λ (x : List ℕ). a ++ x)
+    (ap₂ drop z (append-assoc (take (length a) l) b rest) ∙ drop-at (take (length a) l) (b ++ rest) (length a) (length-take-le (length a) l (omega arith)))
+    ∙ sym (append-assoc a b rest) ∙ ap (λ (k : ℕ). a ++ b ++ drop k l) m

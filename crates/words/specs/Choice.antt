@@ -1,7 +1,7 @@
--- Laws of tests and of a choice: by-test, both, not-both, each-true, not-true, if-le.
+-- Laws of tests and of a choice: by-test, both, not-both, each-true, not-true, not-false, if-le.
 use mathlib.Core.Bool.{Bool, true, false, not, _&&_}
 use mathlib.Core.List.{List, [], _∷_}
-use mathlib.Core.Path.{_≡_, refl, ap}
+use mathlib.Core.Path.{_≡_, refl, sym, ap}
 use Prim.Native.Nat.{ℕ, _≤_}
 use native.Mathlib.Omega.{arith}
 use Rattle.words.specs.Words.{if_then_else_, All}
@@ -39,6 +39,10 @@ not-both false q e h = never h
 pub not-true : (t : Bool) → not t ≡ true → t ≡ false
 not-true true e = never e
 not-true false e = refl
+
+pub not-false : (t : Bool) → not t ≡ false → t ≡ true
+not-false true e = refl
+not-false false e = never (sym e)
 
 -- a choice between two that are at most n
 pub if-le : (t : Bool) {a b n : ℕ} → a ≤ n → b ≤ n → (if t then a else b) ≤ n

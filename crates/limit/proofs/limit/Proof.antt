@@ -1,0 +1,22 @@
+-- `limit::limit` meets its contract: the quotient of the numerator.
+use mathlib.Core.Path.{_≡_, ap, _∙_}
+use Prim.Native.Nat.{ℕ, _/_}
+use native.Mathlib.Omega.{arith}
+use mir.Syntax.{w64}
+use mir.Facts.{toZ-ofZ}
+use Rattle.limit.specs.Limit.{limitOf}
+use borrow.Author.Needs.{needs}
+use Rattle.limit.proofs.limit.Statement.{statement}
+use Rattle.limit.proofs.limit.Tie as tie
+
+numerator-requires : tie.Need-numerator-requires
+numerator-requires c κs = search needs
+
+returns : tie.Need-returns
+unfolding limitOf
+returns c =
+    let e = toZ-ofZ {w = w64} (c .before .fits .base) in
+    (cc, omega arith)
+
+pub limit-spec : {M : Type 1} → statement M
+limit-spec = tie.close (tie.spec numerator-requires returns)

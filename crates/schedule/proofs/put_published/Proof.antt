@@ -1,0 +1,29 @@
+-- `schedule::put_published` meets its contract: the rows stand after the head.
+use mathlib.Core.Path.{refl}
+use native.Mathlib.Omega.{arith}
+use Rattle.words.specs.Words.{eachOf}
+use Rattle.wire.proofs.Laws.{then-placed}
+use Rattle.schedule.specs.Schedule.{published, rowsOf, headBytes, rowBytes, scheduleBytes}
+use borrow.Author.Needs.{needs}
+use Rattle.schedule.proofs.put_published.Statement.{statement}
+use Rattle.schedule.proofs.put_published.Tie as tie
+
+put-head-requires : tie.Need-put-head-requires
+put-head-requires c κs = search needs
+
+put-rows-requires : tie.Need-put-rows-requires
+put-rows-requires c κs = search needs
+
+same-length : tie.Need-same-length
+same-length c = search needs
+
+returns : tie.Need-returns
+unfolding scheduleBytes headBytes rowBytes eachOf
+returns c =
+    let c2 = c .before .before in
+    let c1 = c2 .before .before .before .before in
+    let s = c1 .before .before .before in
+    then-placed (s .args .d .now) (headBytes published) (eachOf rowBytes (rowsOf published)) 0 10 (c1 .put-head .ensures) (c2 .put-rows .ensures) refl (omega (arith, s .pre))
+
+pub put-published-spec : {M : Type 1} → statement M
+put-published-spec = tie.close (tie.spec put-head-requires put-rows-requires same-length returns)

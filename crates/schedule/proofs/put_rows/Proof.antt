@@ -1,0 +1,110 @@
+-- `schedule::put_rows` meets its contract: after n turns the first n rows stand.
+use mathlib.Core.List.{List, []}
+use mathlib.Core.Path.{_≡_, refl, sym, ap, _∙_}
+use Prim.Native.Nat.{ℕ, _+_, _*_, _-_, _≤_, _<_}
+use native.Mathlib.Numerals.{add-one}
+use native.Mathlib.Omega.{arith}
+use lib.ListN.{length, take, getD}
+use lib.Seq.{length-take-le, sets-eq}
+use Rattle.words.specs.Words.{eachOf}
+use Rattle.words.specs.Sums.{length-each, each-next, all-at}
+use Rattle.wire.specs.Bytes.{placed}
+use Rattle.wire.proofs.Laws.{then-placed}
+use Rattle.limit.specs.declared.Row.{Row}
+use Rattle.limit.specs.Bounds.{RowFits}
+use Rattle.schedule.specs.Schedule.{published, rowsOf, rowBytes}
+use Rattle.schedule.specs.PublishedLaws.{published-fits}
+use Rattle.schedule.proofs.put_rows.Statement.{statement}
+use Rattle.schedule.proofs.put_rows.Tie as tie
+
+abbrev rows : List Row
+rows = rowsOf published
+
+-- what stands past the last row
+abbrev none : Row
+none = record { rate = 0; second = 0; «base_rate» = 0; fixed = 0 }
+
+rows-fit : (n : ℕ) → RowFits (getD rows n none)
+rows-fit n =
+    let h = published-fits in
+    all-at RowFits none (record { rate = omega arith; second = omega arith; base = omega arith; fixed = omega arith }) rows
+    (h .c, (h .d, (h .e, (h .f, (h .g, (h .h, (h .i, (h .z, tt)))))))) n
+
+row-length : (r : Row) → length (rowBytes r) ≡ 14
+unfolding rowBytes
+row-length r = refl
+
+rows-length : (n : ℕ) → n ≤ 8 → length (eachOf rowBytes (take n rows)) ≡ 14 * n
+rows-length n h = length-each 14 rowBytes row-length (take n rows) ∙ ap (λ (k : ℕ). 14 * k) (length-take-le n rows h)
+
+row-placed : (d₀ d d′ : List ℕ) (n : ℕ) → n < 8 → 122 ≤ length d₀
+    → d ≡ placed d₀ 10 (eachOf rowBytes (take n rows)) → d′ ≡ placed d (10 + 14 * n) (rowBytes (getD rows n none))
+    → d′ ≡ placed d₀ 10 (eachOf rowBytes (take (n + 1) rows))
+row-placed d₀ d d′ n h l e e′ =
+    then-placed d₀ (eachOf rowBytes (take n rows)) (rowBytes (getD rows n none)) 10 (14 * n) e e′ (rows-length n (omega arith)) (omega (arith, row-length (getD rows n none)))
+    ∙ ap (λ (vs : List ℕ). placed d₀ 10 vs) (sym (ap (λ (k : ℕ). eachOf rowBytes (take k rows)) (add-one n) ∙ each-next rowBytes none rows n h))
+
+abbrev Inv-loop : tie.InvT-loop
+Inv-loop d₀ n₀ d n = (n ≤ 8) × (length d ≡ length d₀) × (d ≡ placed d₀ 10 (eachOf rowBytes (take n rows)))
+
+abbrev μ-loop : tie.MeasureT-loop
+μ-loop d₀ n₀ d n = 8 - n
+
+loop-holds : tie.Need-loop-holds Inv-loop μ-loop
+unfolding eachOf
+loop-holds c = (omega arith, refl, sets-eq [] (c .before .args .d .now) 10 (omega arith))
+
+mul-put-row : tie.Need-mul-put-row Inv-loop μ-loop
+mul-put-row c = omega arith
+
+add-put-row : tie.Need-add-put-row Inv-loop μ-loop
+add-put-row c = omega arith
+
+mul-put-row-2 : tie.Need-mul-put-row-2 Inv-loop μ-loop
+mul-put-row-2 c = omega arith
+
+array-copy-out-put-row : tie.Need-array-copy-out-put-row Inv-loop μ-loop
+array-copy-out-put-row c = omega arith
+
+put-row-requires : tie.Need-put-row-requires Inv-loop μ-loop
+put-row-requires c κs = (rows-fit (c .before .before .before .loop .n), omega arith)
+
+add-n : tie.Need-add-n Inv-loop μ-loop
+add-n c = omega arith
+
+loop-less : tie.Need-loop-less Inv-loop μ-loop
+loop-less c = omega arith
+
+loop-again : tie.Need-loop-again Inv-loop μ-loop
+loop-again c =
+    let r = c .before .before in
+    let l = r .before .before .before .before in
+    let s = l .before .before in
+    (omega arith, omega arith, row-placed (s .args .d .now) (l .loop .d) (r .put-row .last .0) (l .loop .n) (omega arith) (s .pre) (l .loop .inv .2) (r .put-row .ensures))
+
+same-length : tie.Need-same-length Inv-loop μ-loop
+same-length c = omega arith
+
+returns : tie.Need-returns Inv-loop μ-loop
+returns c =
+    let l = c .before .loop in
+    let e : l .n ≡ 8 = omega arith in
+    l .inv .2 ∙ ap (λ (k : ℕ). placed (c .before .before .before .args .d .now) 10 (eachOf rowBytes (take k rows))) e
+
+pub put-rows-spec : {M : Type 1} → statement M
+put-rows-spec =
+    tie.close
+    (tie.spec
+    Inv-loop
+    μ-loop
+    loop-holds
+    mul-put-row
+    add-put-row
+    mul-put-row-2
+    array-copy-out-put-row
+    put-row-requires
+    add-n
+    loop-less
+    loop-again
+    same-length
+    returns)

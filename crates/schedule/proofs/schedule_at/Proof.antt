@@ -1,0 +1,66 @@
+-- `schedule::schedule_at` meets its contract: each call reads its field of the definition.
+use native.Mathlib.Omega.{arith}
+use Rattle.schedule.specs.Fields.{schedule-by}
+use borrow.Author.Needs.{needs}
+use Rattle.schedule.proofs.schedule_at.Statement.{statement}
+use Rattle.schedule.proofs.schedule_at.Tie as tie
+
+rate-at-requires : tie.Need-rate-at-requires
+rate-at-requires c κs = search needs
+
+rate-at-requires-2 : tie.Need-rate-at-requires-2
+rate-at-requires-2 c κs = search needs
+
+row-at-requires : tie.Need-row-at-requires
+row-at-requires c κs = search needs
+
+row-at-requires-2 : tie.Need-row-at-requires-2
+row-at-requires-2 c κs = search needs
+
+row-at-requires-3 : tie.Need-row-at-requires-3
+row-at-requires-3 c κs = search needs
+
+row-at-requires-4 : tie.Need-row-at-requires-4
+row-at-requires-4 c κs = search needs
+
+row-at-requires-5 : tie.Need-row-at-requires-5
+row-at-requires-5 c κs = search needs
+
+row-at-requires-6 : tie.Need-row-at-requires-6
+row-at-requires-6 c κs = search needs
+
+row-at-requires-7 : tie.Need-row-at-requires-7
+row-at-requires-7 c κs = search needs
+
+row-at-requires-8 : tie.Need-row-at-requires-8
+row-at-requires-8 c κs = (omega arith, c .before .before .before .before .before .before .before .before .before .before .pre)
+
+returns : tie.Need-returns
+returns c =
+    schedule-by _
+    (c .before .before .before .before .before .before .before .before .before .rate-at .ensures)
+    (c .before .before .before .before .before .before .before .before .rate-at2 .ensures)
+    (c .before .before .before .before .before .before .before .row-at .ensures)
+    (c .before .before .before .before .before .before .row-at2 .ensures)
+    (c .before .before .before .before .before .row-at3 .ensures)
+    (c .before .before .before .before .row-at4 .ensures)
+    (c .before .before .before .row-at5 .ensures)
+    (c .before .before .row-at6 .ensures)
+    (c .before .row-at7 .ensures)
+    (c .row-at8 .ensures)
+
+pub schedule-at-spec : {M : Type 1} → statement M
+schedule-at-spec =
+    tie.close
+    (tie.spec
+    rate-at-requires
+    rate-at-requires-2
+    row-at-requires
+    row-at-requires-2
+    row-at-requires-3
+    row-at-requires-4
+    row-at-requires-5
+    row-at-requires-6
+    row-at-requires-7
+    row-at-requires-8
+    returns)

@@ -1,0 +1,58 @@
+-- Refusals 1 to 4, computed on the definitions: document 01's examples and both sides of each bound, by bytes changed in the published schedule.
+use mathlib.Core.List.{List, [], _∷_, _++_}
+use mathlib.Core.Path.{_≡_, refl}
+use Prim.Native.Nat.{ℕ, _+_}
+use lib.ListN.{take}
+use Rattle.words.specs.Words.{eachOf, All}
+use Rattle.wire.specs.Bytes.{M, u16At, u64At, bytes16, bytes64, placed}
+use Rattle.refusal.specs.declared.Checked.{Checked}
+use Rattle.refusal.specs.declared.Checked.the-variants.{Fine, Bad}
+use Rattle.refusal.specs.declared.Refusal.the-variants.{ScheduleLength, ScheduleMark, ScheduleVersion, ScheduleRates}
+use Rattle.schedule.specs.Schedule.{rowAt, scheduleOf, published, rowBytes, headBytes, scheduleBytes}
+use Rattle.schedule.specs.Check.{rowFits, ratesFit, fieldsCheck, scheduleCheck}
+
+-- a schedule's bytes, and what the checks find
+record Case : Type 0 where
+  bytes : List ℕ
+  finds : Checked
+
+abbrev case : List ℕ → Checked → Case
+case bytes finds = record { bytes = bytes; finds = finds }
+
+-- the published schedule with other bytes at a place
+abbrev with : ℕ → List ℕ → List ℕ
+with at vs = placed (scheduleBytes published) at vs
+
+cases : List Case
+cases =
+    -- 1 "schedule not 122 bytes": "121"; 123; none
+    case (take 121 (scheduleBytes published)) (Bad ScheduleLength)
+    ∷ case (scheduleBytes published ++ (0 ∷ [])) (Bad ScheduleLength)
+    ∷ case [] (Bad ScheduleLength)
+    -- 2 "its mark or zero": "ACB"; no zero
+    ∷ case (with 2 (66 ∷ [])) (Bad ScheduleMark)
+    ∷ case (with 3 (1 ∷ [])) (Bad ScheduleMark)
+    -- 3 "its version": "2"; 257
+    ∷ case (with 4 (bytes16 2)) (Bad ScheduleVersion)
+    ∷ case (with 4 (bytes16 257)) (Bad ScheduleVersion)
+    -- 4 "a rate over 1,500, percent over 100 or fixed amount over M": row c's rates, row z's rates, percents, row c's fixed amount
+    ∷ case (with 10 (bytes16 1501)) (Bad ScheduleRates)
+    ∷ case (with 12 (bytes16 1501)) (Bad ScheduleRates)
+    ∷ case (with 14 (bytes16 1501)) (Bad ScheduleRates)
+    ∷ case (with 112 (bytes16 1501)) (Bad ScheduleRates)
+    ∷ case (with 6 (bytes16 101)) (Bad ScheduleRates)
+    ∷ case (with 8 (bytes16 101)) (Bad ScheduleRates)
+    ∷ case (with 16 (bytes64 (M + 1))) (Bad ScheduleRates)
+    ∷ case (with 6 (bytes16 100 ++ bytes16 100 ++ bytes16 1500 ++ bytes16 1500 ++ bytes16 1500 ++ bytes64 M)) Fine
+    -- "Checked by rising number": mark and version; version and rate
+    ∷ case (with 2 (66 ∷ 0 ∷ 2 ∷ [])) (Bad ScheduleMark)
+    ∷ case (with 4 (bytes16 2 ++ bytes16 101)) (Bad ScheduleVersion)
+    ∷ []
+
+Right : Case → Type 0
+Right c = scheduleCheck (c .bytes) ≡ c .finds
+
+checks-right : All Right cases
+unfolding Right cases scheduleBytes headBytes rowBytes eachOf scheduleCheck fieldsCheck ratesFit rowFits scheduleOf rowAt u16At u64At
+checks-right =
+    (refl, (refl, (refl, (refl, (refl, (refl, (refl, (refl, (refl, (refl, (refl, (refl, (refl, (refl, (refl, (refl, (refl, tt)))))))))))))))))

@@ -1,0 +1,50 @@
+-- How many limits there are, and what each is at most, under a schedule that fits: limits-length, limits-le, a3-limit-le.
+use mathlib.Core.Path.{_≡_, refl}
+use Prim.Native.Nat.{ℕ, _≤_}
+use native.Mathlib.Omega.{arith}
+use lib.IntN.{ℤ}
+use lib.ListN.{length, getD}
+use Rattle.words.specs.Words.{All}
+use Rattle.words.specs.Sums.{all-at}
+use Rattle.wire.specs.Bytes.{M}
+use Rattle.limit.specs.declared.Row.{Row}
+use Rattle.limit.specs.Limit.{perMille, counted, limitOf}
+use Rattle.limit.specs.Bounds.{mostLimit, RowFits}
+use Rattle.limit.specs.BoundLaws.{limit-le}
+use Rattle.schedule.specs.declared.Schedule.{Schedule}
+use Rattle.schedule.specs.Tiers.{limits, a3LimitOf}
+use Rattle.schedule.specs.Fits.{RatesFit}
+
+infixr 10 _and_
+_and_ : {A B : Type 0} → A → B → A × B
+_and_ a b = (a, b)
+
+pub limits-length : (S : Schedule) (vaf vaf′ : ℕ) (base : ℤ) (w : ℕ) → length (limits S vaf vaf′ base w) ≡ 13
+unfolding limits
+limits-length S vaf vaf′ base w = refl
+
+module _ (S : Schedule) (vaf vaf′ : ℕ) (base : ℤ) (w : ℕ) (h : RatesFit S) (v : vaf ≤ M) (v′ : vaf′ ≤ M) (b : counted base ≤ M) where
+  all-le : All (λ n. n ≤ mostLimit) (limits S vaf vaf′ base w)
+  unfolding limits
+  all-le =
+      limit-le _ _ _ _ _ (h .i) (omega arith) (omega arith) b
+      and limit-le _ _ _ _ _ (h .i) (omega arith) (omega arith) b
+      and limit-le _ _ _ _ _ (h .h) (omega arith) (omega arith) b
+      and limit-le _ _ _ _ _ (h .h) (omega arith) (omega arith) b
+      and limit-le _ _ _ _ _ (h .g) (omega arith) (omega arith) b
+      and limit-le _ _ _ _ _ (h .g) (omega arith) (omega arith) b
+      and limit-le _ _ _ _ _ (h .g) (omega arith) (omega arith) b
+      and limit-le _ _ _ _ _ (h .e) (omega arith) (omega arith) b
+      and limit-le _ _ _ _ _ (h .e) (omega arith) (omega arith) b
+      and limit-le _ _ _ _ _ (h .e) (omega arith) (omega arith) b
+      and limit-le _ _ _ _ _ (h .f) (omega arith) (omega arith) b
+      and limit-le _ _ _ _ _ (h .c) (omega arith) (omega arith) b
+      and limit-le _ _ _ _ _ (h .d) (omega arith) (omega arith) b
+      and tt
+
+  pub limits-le : (t : ℕ) → getD (limits S vaf vaf′ base w) t 0 ≤ mostLimit
+  limits-le t = all-at (λ n. n ≤ mostLimit) 0 (omega arith) (limits S vaf vaf′ base w) all-le t
+
+pub a3-limit-le : (S : Schedule) (vaf′ : ℕ) (base : ℤ) → RatesFit S → vaf′ ≤ M → counted base ≤ M → a3LimitOf S vaf′ base ≤ mostLimit
+unfolding a3LimitOf
+a3-limit-le S vaf′ base h v b = limit-le (S .z) 100 vaf′ base 0 (h .z) (omega arith) v b
