@@ -1,41 +1,46 @@
--- From a group to a fund, from functions of tiers to arrays, and to another order.
+-- The theorems along the ranked tiers, for any order `le` along which limits do not fall: of a group (ranked-optimal, ranked-stands, ranked-left),
+-- of a fund (ranked-fund-optimal), of the arrays that the code fills (cascaded), and of a group's excesses summed.
 use mathlib.Core.Path.{_≡_, refl, ap, sym, _∙_}
-use mathlib.Core.Bool.{Bool, true, false}
-use mathlib.Core.List.{List, [], _∷_, map}
-use Prim.Native.Nat.{ℕ, zero, suc, _+_, _-_, _*_, _/_, _≤_, _<_}
+use mathlib.Core.Bool.{Bool}
+use mathlib.Core.List.{List}
+use Prim.Native.Nat.{ℕ, _+_, _-_, _≤_, _<_}
 use native.Mathlib.Omega.{arith}
-use native.Mathlib.Nat.{le-div-iff-mul-le, mul-div-le, mul-comm, le-trans}
 use native.Mathlib.Decide.{decLt}
 use borrow.Author.Tests.{lt-ltb, le-ltb}
-use lib.Dec.{ltb, lit<}
-use lib.ListN.{length, getD, replicate, length-replicate, List·getD-map}
-use Rattle.cascade.specs.Cascade.{byTier, byLimit, ranked, left, excess, leftAt, excessAt, visit, standing}
-use Rattle.cascade.specs.Cut.{stands, taken, Feasible, Optimal, FundOptimal}
+use lib.Dec.{ltb}
+use lib.ListN.{getD, replicate, length-replicate}
+use Rattle.cascade.specs.Cascade.{byTier, ranked, leftAt, excessAt, standing, left, excess, standingAfter, excessSum}
+use Rattle.cascade.specs.Cut.{stands, taken, Optimal, FundOptimal}
 use Rattle.cascade.specs.Promise.{Cascaded}
-use Rattle.words.specs.Words.{if_then_else_, sum, All}
+use Rattle.words.specs.Words.{if_then_else_, sum}
 use Rattle.words.specs.Sums.{all-map, sum-le, sum-same}
-use Rattle.cascade.proofs.Core.{Ordered, Lists, optimal}
-use Rattle.cascade.proofs.Ranking.{byLimit-ordered, ranked-sorted, ranked-lists}
-use Rattle.cascade.proofs.Visit.{visited}
+use Rattle.cascade.proofs.Core.{Ordered, optimal, optimal-only, stands-after, standing-within}
+use Rattle.cascade.proofs.Ranking.{ranked-sorted, ranked-lists}
+use Rattle.cascade.proofs.Visit.{visit, visited}
 
 pub ranked-optimal : (n : ℕ) (le : ℕ → ℕ → Bool) (L e : ℕ → ℕ) → Ordered le L → Optimal n le L e (excess L e (ranked le n))
 ranked-optimal n le L e o = optimal n le L e (ranked le n) o (ranked-sorted le L o n) (ranked-lists le n)
 
--- tiers ranked by unrounded limits p t / d, the limits being those rounded down
-div-mono : (p q d : ℕ) → 0 < d → p ≤ q → p / d ≤ q / d
-div-mono p q d h l = le-div-iff-mul-le h .1 (le-trans (rw (mul-comm (p / d) d) (mul-div-le p d)) l)
+-- what the excesses leave standing at a tier is what stands after it
+pub ranked-stands : (n : ℕ) (le : ℕ → ℕ → Bool) (L e : ℕ → ℕ) → Ordered le L → (t : ℕ) → t < n → stands n le e (excess L e (ranked le n)) t ≡ standingAfter L e (ranked le n) t
+ranked-stands n le L e o = stands-after n le L e (ranked le n) o (ranked-sorted le L o n) (ranked-lists le n)
 
-pub unrounded-ordered : (p : ℕ → ℕ) (d : ℕ) → 0 < d → Ordered (byLimit p) (λ t. p t / d)
-unrounded-ordered p d h =
-    let o = byLimit-ordered p in
-    record { self = o .self; total = o .total; strict = o .strict; trans = o .trans; rises = λ a b l. div-mono (p a) (p b) d h (o .rises a b l) }
+-- left is exact: with what stands before it, it is the limit
+pub ranked-left : (n : ℕ) (le : ℕ → ℕ → Bool) (L e : ℕ → ℕ) → Ordered le L → (t : ℕ) → t < n → left L e (ranked le n) t + standing L e 0 (ranked le n) t ≡ L t
+unfolding left
+ranked-left n le L e o t l = omega (arith, standing-within n le L e (ranked le n) o (ranked-sorted le L o n) (ranked-lists le n) t l)
 
+-- a fund's cuts are the best where each group's are
 pub fund-optimal : (groups n : ℕ) (le : ℕ → ℕ → Bool) (L : ℕ → ℕ) (e x : ℕ → ℕ → ℕ) → ((g : ℕ) → g < groups → Optimal n le L (e g) (x g)) → FundOptimal groups n le L e x
 fund-optimal groups n le L e x o =
     record {
       feasible = λ g l. o g l .feasible;
+      most = λ g l. o g l .most;
       least = λ cut h. sum-le (λ g. taken n (e g) (x g)) (λ g. taken n (e g) (cut g)) groups (λ g l. o g l .least (cut g) (h g l));
     }
+
+pub ranked-fund-optimal : (groups n : ℕ) (le : ℕ → ℕ → Bool) (L : ℕ → ℕ) (e : ℕ → ℕ → ℕ) → Ordered le L → FundOptimal groups n le L e (λ g. excess L (e g) (ranked le n))
+ranked-fund-optimal groups n le L e o = fund-optimal groups n le L e (λ g. excess L (e g) (ranked le n)) (λ g _. ranked-optimal n le L (e g) o)
 
 -- a cut that agrees with a best one at every tier of the group, those of exposure above 0, is a best one
 module _ (n : ℕ) (le : ℕ → ℕ → Bool) (L e x y : ℕ → ℕ) (q : (t : ℕ) → t < n → 0 < e t → x t ≡ y t) where
@@ -69,15 +74,16 @@ module _ (n : ℕ) (le : ℕ → ℕ → Bool) (L e : ℕ → ℕ) (o : Ordered 
       (all-map (λ t l. rw (length-replicate {A = ℕ} n 0) l) (ranked le n) (ranked-lists le n .only)))
 
   pub cascaded :
-      (ls xs : List ℕ) → ls ≡ visit (leftAt L e) L e 0 (ranked le n) (replicate n 0) → xs ≡ visit (excessAt L e) L e 0 (ranked le n) (replicate n 0)
+      (ls xs : List ℕ) → ls ≡ visit (leftAt L) L e 0 (ranked le n) (replicate n 0) → xs ≡ visit (excessAt L e) L e 0 (ranked le n) (replicate n 0)
       → Cascaded n le L e (byTier ls) (byTier xs)
-  unfolding left excess leftAt excessAt
+  unfolding left excess
   cascaded ls xs p q =
       let x : (t : ℕ) → t < n → byTier xs t ≡ excess L e (ranked le n) t = λ t l. rw q (filled (excessAt L e) t l) in
       record {
-        lefts = λ t l. rw p (filled (leftAt L e) t l);
+        lefts = λ t l. rw p (filled (leftAt L) t l);
         excesses = x;
         best = optimal-same n le L e (excess L e (ranked le n)) (byTier xs) (λ t l _. sym (x t l)) (ranked-optimal n le L e o);
+        only = λ cut h t l p. optimal-only n le L e (ranked le n) o (ranked-sorted le L o n) (ranked-lists le n) cut h t l p ∙ sym (x t l);
       }
 
 -- no excess passes its exposure
@@ -92,11 +98,20 @@ sum-taken n e x y q h =
     sum-same x (λ u. (if ltb 0 (e u) then y u else 0)) n
     (λ u l. elim (decLt 0 (e u)) [ yes p ↦ rw (lt-ltb 0 (e u) p) (q u l) | no p ↦ rw (le-ltb 0 (e u) (omega arith)) (omega (arith, q u l, h u)) ])
 
--- arrays of keys and of their limits rounded down
-pub keys-ordered : (keys limits : List ℕ) → limits ≡ map (λ k. k / 100000) keys → Ordered (byLimit (byTier keys)) (byTier limits)
-keys-ordered keys limits e =
-    let o = unrounded-ordered (byTier keys) 100000 (lit< tt) in
-    record { self = o .self; total = o .total; strict = o .strict; trans = o .trans; rises = λ a b h. rw (rounded a, rounded b) (o .rises a b h) }
-  where
-    rounded : (t : ℕ) → byTier limits t ≡ byTier keys t / 100000
-    rounded t = rw e (List·getD-map (λ (k : ℕ). k / 100000) keys t 0)
+-- a group's excesses summed are what they take, and at most its exposures summed
+pub excess-sum-taken : (n : ℕ) (L e : ℕ → ℕ) (ks : List ℕ) → excessSum n L e ks ≡ taken n e (excess L e ks)
+unfolding excessSum
+excess-sum-taken n L e ks = sum-taken n e (excess L e ks) (excess L e ks) (λ t l. refl) (excess-within L e ks)
+
+pub excess-sum-within : (n : ℕ) (L e : ℕ → ℕ) (ks : List ℕ) → excessSum n L e ks ≤ sum e n
+unfolding excessSum
+excess-sum-within n L e ks = sum-le (excess L e ks) e n (λ t l. excess-within L e ks t)
+
+-- the same of what `cascade` returns
+module _ {n : ℕ} {le : ℕ → ℕ → Bool} {L e l x : ℕ → ℕ} (c : Cascaded n le L e l x) where
+  pub cascaded-sum : sum x n ≡ excessSum n L e (ranked le n)
+  unfolding excessSum
+  cascaded-sum = sum-same x (excess L e (ranked le n)) n (c .excesses)
+
+  pub cascaded-within : sum x n ≤ sum e n
+  cascaded-within = omega (arith, cascaded-sum, excess-sum-within n L e (ranked le n))
