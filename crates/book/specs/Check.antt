@@ -67,11 +67,11 @@ unfoldable pub goodMitigant : ℕ → Mitigant → Bool
 goodMitigant C m =
     1 ≤? m .form && m .form ≤? 5 && m .flags <? 32 && inBook C (m .counterparty) && m .value ≤? M
 
--- "counts don't add to K"
+-- the counts of mitigants added up
 unfoldable pub countsAdd : List ℕ → ℕ
 countsAdd b = sumOf (λ (h : Holding). h .asset .count) (holdingsFrom b 1 1 (N b))
 
--- 6 to 9 of "What the desk turns back"
+-- 6 to 9 of "What the desk turns back": "its mark or zeros"; "its version"; "a count over its most, or another length"; "total or excluded over M, base outside −M to M"
 unfoldable pub headerCheck : List ℕ → Checked
 headerCheck b =
     (refuse BookMark unless bookMarked b)
@@ -79,14 +79,26 @@ headerCheck b =
     andThen (refuse BookCounts unless countsFit b)
     andThen (refuse BookAmounts unless amountsFit b)
 
+-- 10: "counterparty field, unknown bit"
+unfoldable pub counterpartiesCheck : List ℕ → Checked
+counterpartiesCheck b = refuseEach Refusal.Counterparty (goodCounterparty b) (C b)
+
+-- 11: "asset field, unknown bit, amount over M"
+unfoldable pub assetsCheck : List ℕ → Checked
+assetsCheck b = refuseEach Refusal.Asset (λ place. goodAsset (C b) (assetAt b place)) (N b)
+
+-- 12: "mitigant likewise"
+unfoldable pub mitigantsCheck : List ℕ → Checked
+mitigantsCheck b = refuseEach Refusal.Mitigant (λ place. goodMitigant (C b) (mitigantAt b place)) (K b)
+
+-- 13: "counts don't add to K"
+unfoldable pub countsCheck : List ℕ → Checked
+countsCheck b = refuse MitigantCounts unless countsAdd b =? K b
+
 -- 10 to 13
 unfoldable pub recordsCheck : List ℕ → Checked
-recordsCheck b =
-    refuseEach Refusal.Counterparty (goodCounterparty b) (C b)
-    andThen refuseEach Refusal.Asset (λ place. goodAsset (C b) (assetAt b place)) (N b)
-    andThen refuseEach Refusal.Mitigant (λ place. goodMitigant (C b) (mitigantAt b place)) (K b)
-    andThen (refuse MitigantCounts unless countsAdd b =? K b)
+recordsCheck b = counterpartiesCheck b andThen assetsCheck b andThen mitigantsCheck b andThen countsCheck b
 
--- 5 to 13
+-- 5 to 13, "by rising number"; 5: "book under 40 bytes"
 unfoldable pub bookCheck : List ℕ → Checked
 bookCheck b = (refuse BookLength unless 40 ≤? length b) andThen headerCheck b andThen recordsCheck b

@@ -6,9 +6,9 @@ use Rattle.book.specs.declared.Kind.{Kind}
 use Rattle.book.specs.declared.Kind.the-variants.{Other, Bank, HomeGovernment, ProvincialGovernment, LifeCompany}
 use Rattle.book.specs.declared.Counterparty.{Counterparty}
 use Rattle.book.specs.declared.Asset.{Asset}
--- the number of a kind
 use Rattle.words.specs.Words.{_≤?_, _=?_}
 
+-- "0 other, 1 bank, 2 home government, 3 provincial government, 4 registered life company"
 abbrev pub kindNumber : Kind → ℕ
 kindNumber Other = 0
 kindNumber Bank = 1

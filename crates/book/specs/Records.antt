@@ -7,6 +7,7 @@ use Rattle.words.specs.Words.{_=?_, if_then_else_}
 use Rattle.wire.specs.Bytes.{byteAt, u16At, u64At, i64At}
 use Rattle.book.specs.declared.Kind.{Kind}
 use Rattle.book.specs.declared.Kind.the-variants.{Other, Bank, HomeGovernment, ProvincialGovernment, LifeCompany}
+use Rattle.book.specs.declared.Header.{Header}
 use Rattle.book.specs.declared.Counterparty.{Counterparty}
 use Rattle.book.specs.declared.Asset.{Asset}
 use Rattle.book.specs.declared.Mitigant.{Mitigant}
@@ -30,6 +31,18 @@ base b = i64At b 24
 
 abbrev pub excluded : List ℕ → ℕ
 excluded b = u64At b 32
+
+-- the header's numbers together
+unfoldable pub headerAt : List ℕ → Header
+headerAt b =
+    record {
+      counterparties = C b;
+      assets = N b;
+      mitigants = K b;
+      total = total b;
+      base = base b;
+      excluded = excluded b;
+    }
 
 -- where the record of a place starts; "record places from 1"
 abbrev pub counterpartyStart : ℕ → ℕ

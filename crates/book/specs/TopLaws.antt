@@ -1,11 +1,13 @@
--- The rule of the topmost parent, without its count of steps.
+-- Laws of the topmost parent: top-step is its rule without a count of steps, top-le and top-pos say where it can stand.
 use mathlib.Core.Bool.{Bool, true, false}
 use mathlib.Core.Path.{_≡_, refl, sym, ap, _∙_}
-use Prim.Native.Nat.{ℕ, zero, suc, _-_, _≤_}
+use Prim.Native.Nat.{ℕ, zero, suc, _-_, _≤_, _<_}
+use native.Mathlib.Nat.{pos-of-ne-zero}
 use native.Mathlib.Omega.{arith}
 use lib.Dec.{ltb, eqb}
-use borrow.Author.Tests.{ltb-true, eq-eqb}
+use borrow.Author.Tests.{ltb-true, eq-eqb, eqb-false}
 use Rattle.words.specs.Words.{if_then_else_}
+use Rattle.words.specs.Choice.{by-test, if-le}
 use Rattle.book.specs.declared.Counterparty.{Counterparty}
 use Rattle.book.specs.Book.{Book, parentOf, topIn, topOf}
 
@@ -37,3 +39,26 @@ top-step B (suc n) =
     let who = B .counterparty in
     ap (λ (z : ℕ). if eqb (parentOf who (suc n)) 0 then suc n else z)
     (agree n (parentOf who (suc n)) who (parentOf who (suc n)) (omega (arith, parent-lower who (suc n))) (omega arith))
+
+-- a topmost parent is no higher a place
+top-in-le : (steps : ℕ) (who : ℕ → Counterparty) (p : ℕ) → topIn steps who p ≤ p
+unfolding topIn
+top-in-le zero who p = omega arith
+top-in-le (suc n) who p =
+    if-le (eqb (parentOf who p) 0) (omega arith) (omega (arith, top-in-le n who (parentOf who p), parent-lower who p))
+
+pub top-le : (B : Book) (p : ℕ) → topOf B p ≤ p
+unfolding topOf
+top-le B p = top-in-le p (B .counterparty) p
+
+-- the topmost parent of a place is a place
+top-in-pos : (steps : ℕ) (who : ℕ → Counterparty) (p : ℕ) → 0 < p → 0 < topIn steps who p
+unfolding topIn
+top-in-pos zero who p h = h
+top-in-pos (suc n) who p h =
+    by-test (λ (t : ℕ). 0 < t) (eqb (parentOf who p) 0) p (topIn n who (parentOf who p)) (λ e. h)
+    (λ e. top-in-pos n who (parentOf who p) (pos-of-ne-zero (eqb-false (parentOf who p) 0 e)))
+
+pub top-pos : (B : Book) (p : ℕ) → 0 < p → 0 < topOf B p
+unfolding topOf
+top-pos B p h = top-in-pos p (B .counterparty) p h

@@ -1,3 +1,4 @@
+-- `asset_at`: the asset's eleven fields stand where `assetAt` reads them.
 use Rattle.book.specs.Records.{assetAt}
 use borrow.Author.Needs.{needs}
 use Rattle.book.proofs.asset_at.Statement.{statement}
@@ -89,7 +90,7 @@ u64-at-requires-5 c κs = search needs
 
 returns : tie.Need-returns
 unfolding assetAt
-returns c = cc
+returns c = rw (c .u64-at5 .ensures, c .before .u64-at4 .ensures, c .before .before .u64-at3 .ensures, c .before .before .before .u64-at2 .ensures, c .before .before .before .before .u64-at .ensures, c .before .before .before .before .before .u16-at3 .ensures, c .before .before .before .before .before .before .u16-at2 .ensures, c .before .before .before .before .before .before .before .before .before .before .before .u16-at .ensures)
 
 pub asset-at-spec : {M : Type 1} → statement M
 asset-at-spec =

@@ -1,3 +1,4 @@
+-- `counterparty_at`: the counterparty's fields stand where `counterpartyAt` reads them.
 use Rattle.book.specs.Records.{counterpartyAt}
 use borrow.Author.Needs.{needs}
 use Rattle.book.proofs.counterparty_at.Statement.{statement}
@@ -12,11 +13,14 @@ mul-at c = search needs
 add-at : tie.Need-add-at
 add-at c = search needs
 
-add-kind-of : tie.Need-add-kind-of
-add-kind-of c = search needs
+add-high-four : tie.Need-add-high-four
+add-high-four c = search needs
 
-shared-slice-read-kind-of : tie.Need-shared-slice-read-kind-of
-shared-slice-read-kind-of c = search needs
+shared-slice-read-high-four : tie.Need-shared-slice-read-high-four
+shared-slice-read-high-four c = search needs
+
+high-four-requires : tie.Need-high-four-requires
+high-four-requires c κs = search needs
 
 kind-of-requires : tie.Need-kind-of-requires
 kind-of-requires c κs = search needs
@@ -24,11 +28,14 @@ kind-of-requires c κs = search needs
 u16-at-requires : tie.Need-u16-at-requires
 u16-at-requires c κs = search needs
 
-add-t6 : tie.Need-add-t6
-add-t6 c = search needs
+add-low-four : tie.Need-add-low-four
+add-low-four c = search needs
 
-shared-slice-read-t9 : tie.Need-shared-slice-read-t9
-shared-slice-read-t9 c = search needs
+shared-slice-read-low-four : tie.Need-shared-slice-read-low-four
+shared-slice-read-low-four c = search needs
+
+low-four-requires : tie.Need-low-four-requires
+low-four-requires c κs = search needs
 
 add-t5 : tie.Need-add-t5
 add-t5 c = search needs
@@ -38,7 +45,7 @@ shared-slice-read-t13 c = search needs
 
 returns : tie.Need-returns
 unfolding counterpartyAt
-returns c = cc
+returns c = rw (c .before .low-four .ensures, c .before .before .before .u16-at .ensures, c .before .before .before .before .kind-of .ensures, c .before .before .before .before .before .high-four .ensures)
 
 pub counterparty-at-spec : {M : Type 1} → statement M
 counterparty-at-spec =
@@ -47,12 +54,14 @@ counterparty-at-spec =
     sub-at
     mul-at
     add-at
-    add-kind-of
-    shared-slice-read-kind-of
+    add-high-four
+    shared-slice-read-high-four
+    high-four-requires
     kind-of-requires
     u16-at-requires
-    add-t6
-    shared-slice-read-t9
+    add-low-four
+    shared-slice-read-low-four
+    low-four-requires
     add-t5
     shared-slice-read-t13
     returns)

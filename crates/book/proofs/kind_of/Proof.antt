@@ -1,3 +1,4 @@
+-- `kind_of`: each arm is a test of `kindOf`.
 use mathlib.Core.Path.{_≡_, sym, ap}
 use borrow.Author.Tests.{ne-eqb}
 use Rattle.book.specs.Records.{kindOf}

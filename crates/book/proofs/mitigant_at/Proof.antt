@@ -1,3 +1,4 @@
+-- `mitigant_at`: the mitigant's fields stand where `mitigantAt` reads them.
 use Rattle.book.specs.Records.{mitigantAt}
 use borrow.Author.Needs.{needs}
 use Rattle.book.proofs.mitigant_at.Statement.{statement}
@@ -59,7 +60,7 @@ u64-at-requires c κs = search needs
 
 returns : tie.Need-returns
 unfolding mitigantAt
-returns c = cc
+returns c = rw (c .u64-at .ensures, c .before .u16-at3 .ensures, c .before .before .before .before .u16-at2 .ensures, c .before .before .before .before .before .u16-at .ensures)
 
 pub mitigant-at-spec : {M : Type 1} → statement M
 mitigant-at-spec =

@@ -1,0 +1,78 @@
+-- `assets_check`: a search over assets.
+use mathlib.Core.Path.{_≡_, sym, ap₂, _∙_}
+use Prim.Native.Nat.{_+_, _-_}
+use native.Mathlib.Omega.{arith}
+use denote.Ref.{now}
+use Rattle.words.specs.Choice.{not-true, not-false}
+use Rattle.refusal.specs.declared.Refusal.{Refusal}
+use Rattle.refusal.specs.Search.{Searching, search-starts, search-on, search-finds, search-ends}
+use Rattle.book.specs.Records.{C, N, assetAt}
+use Rattle.book.specs.Check.{assetsCheck, goodAsset}
+use Rattle.admit.proofs.assets_check.Statement.{statement}
+use Rattle.admit.proofs.assets_check.Tie as tie
+
+abbrev Inv-loop : tie.InvT-loop
+Inv-loop b c n passed₀ passed = Searching Refusal.Asset (λ p. goodAsset (C b) (assetAt b p)) (N b) (passed + 1)
+
+abbrev μ-loop : tie.MeasureT-loop
+μ-loop b c n passed₀ passed = N b - passed
+
+u16-at-requires : tie.Need-u16-at-requires Inv-loop μ-loop
+u16-at-requires c κs = omega arith
+
+u16-at-requires-2 : tie.Need-u16-at-requires-2 Inv-loop μ-loop
+u16-at-requires-2 c κs = omega arith
+
+cast-n : tie.Need-cast-n Inv-loop μ-loop
+cast-n c = omega arith
+
+loop-holds : tie.Need-loop-holds Inv-loop μ-loop
+loop-holds c = search-starts _ _ _
+
+add-place : tie.Need-add-place Inv-loop μ-loop
+add-place c = omega arith
+
+asset-at-requires : tie.Need-asset-at-requires Inv-loop μ-loop
+asset-at-requires c κs = omega arith
+
+good-asset-requires : tie.Need-good-asset-requires Inv-loop μ-loop
+good-asset-requires c κs = omega arith
+
+tested : (c : tie.After-good-asset Inv-loop μ-loop) → c .good-asset .result ≡ goodAsset (C (now (c .before .before .before .before .before .before .before .args .b))) (assetAt (now (c .before .before .before .before .before .before .before .args .b)) (c .before .before .before .loop .passed + 1))
+tested c = c .good-asset .ensures ∙ ap₂ goodAsset (c .before .before .before .before .before .u16-at .ensures) (c .before .asset-at .ensures)
+
+cast-t10 : tie.Need-cast-t10 Inv-loop μ-loop
+cast-t10 c = omega arith
+
+returns : tie.Need-returns Inv-loop μ-loop
+unfolding assetsCheck
+returns c = search-finds (c .before .before .before .before .loop .inv) (omega arith) (sym (tested (c .before)) ∙ not-true _ (c .if1 .taken))
+
+loop-less : tie.Need-loop-less Inv-loop μ-loop
+loop-less c = omega arith
+
+loop-again : tie.Need-loop-again Inv-loop μ-loop
+loop-again c = search-on (c .before .before .before .before .loop .inv) (omega arith) (sym (tested (c .before)) ∙ not-false _ (c .if1 .left))
+
+returns-2 : tie.Need-returns-2 Inv-loop μ-loop
+unfolding assetsCheck
+returns-2 c = search-ends (c .before .loop .inv) (omega arith)
+
+pub assets-check-spec : {M : Type 1} → statement M
+assets-check-spec =
+    tie.close
+    (tie.spec
+    Inv-loop
+    μ-loop
+    u16-at-requires
+    u16-at-requires-2
+    cast-n
+    loop-holds
+    add-place
+    asset-at-requires
+    good-asset-requires
+    cast-t10
+    returns
+    loop-less
+    loop-again
+    returns-2)

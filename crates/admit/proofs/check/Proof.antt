@@ -1,0 +1,41 @@
+-- `check`: section by section; a header that passed is what the records' section requires.
+use mathlib.Core.Path.{sym, _∙_}
+use native.Mathlib.Omega.{arith}
+use Rattle.book.specs.AcceptedLaws.{header-fits}
+use Rattle.admit.proofs.Laws.{by-length, by-header, by-records}
+use borrow.Author.Needs.{needs}
+use Rattle.admit.proofs.check.Statement.{statement}
+use Rattle.admit.proofs.check.Tie as tie
+
+returns : tie.Need-returns
+returns c = by-length _ (omega arith)
+
+header-check-requires : tie.Need-header-check-requires
+header-check-requires c κs = search needs
+
+enum-known-header : tie.Need-enum-known-header
+enum-known-header c = search needs
+
+enum-told : tie.Need-enum-told
+enum-told c = search needs
+
+records-check-requires : tie.Need-records-check-requires
+records-check-requires c κs = header-fits _ (sym (c .before .before .header-check .ensures) ∙ c .enum-told .given .1)
+
+returns-2 : tie.Need-returns-2
+returns-2 c = by-header _ (omega arith) (c .before .before .before .header-check .ensures) (c .before .header .given .1)
+
+returns-3 : tie.Need-returns-3
+returns-3 c = c .records-check .ensures ∙ by-records _ (omega arith) (c .before .before .before .header-check .ensures) (c .before .enum-told .given .1)
+
+pub check-spec : {M : Type 1} → statement M
+check-spec =
+    tie.close
+    (tie.spec
+    returns
+    header-check-requires
+    enum-known-header
+    enum-told
+    records-check-requires
+    returns-2
+    returns-3)

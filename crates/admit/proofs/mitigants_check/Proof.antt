@@ -1,0 +1,78 @@
+-- `mitigants_check`: a search over mitigants.
+use mathlib.Core.Path.{_≡_, sym, ap₂, _∙_}
+use Prim.Native.Nat.{_+_, _-_}
+use native.Mathlib.Omega.{arith}
+use denote.Ref.{now}
+use Rattle.words.specs.Choice.{not-true, not-false}
+use Rattle.refusal.specs.declared.Refusal.{Refusal}
+use Rattle.refusal.specs.Search.{Searching, search-starts, search-on, search-finds, search-ends}
+use Rattle.book.specs.Records.{C, K, mitigantAt}
+use Rattle.book.specs.Check.{mitigantsCheck, goodMitigant}
+use Rattle.admit.proofs.mitigants_check.Statement.{statement}
+use Rattle.admit.proofs.mitigants_check.Tie as tie
+
+abbrev Inv-loop : tie.InvT-loop
+Inv-loop b c k passed₀ passed = Searching Refusal.Mitigant (λ p. goodMitigant (C b) (mitigantAt b p)) (K b) (passed + 1)
+
+abbrev μ-loop : tie.MeasureT-loop
+μ-loop b c k passed₀ passed = K b - passed
+
+u16-at-requires : tie.Need-u16-at-requires Inv-loop μ-loop
+u16-at-requires c κs = omega arith
+
+u16-at-requires-2 : tie.Need-u16-at-requires-2 Inv-loop μ-loop
+u16-at-requires-2 c κs = omega arith
+
+cast-k : tie.Need-cast-k Inv-loop μ-loop
+cast-k c = omega arith
+
+loop-holds : tie.Need-loop-holds Inv-loop μ-loop
+loop-holds c = search-starts _ _ _
+
+add-place : tie.Need-add-place Inv-loop μ-loop
+add-place c = omega arith
+
+mitigant-at-requires : tie.Need-mitigant-at-requires Inv-loop μ-loop
+mitigant-at-requires c κs = omega arith
+
+good-mitigant-requires : tie.Need-good-mitigant-requires Inv-loop μ-loop
+good-mitigant-requires c κs = omega arith
+
+tested : (c : tie.After-good-mitigant Inv-loop μ-loop) → c .good-mitigant .result ≡ goodMitigant (C (now (c .before .before .before .before .before .before .before .args .b))) (mitigantAt (now (c .before .before .before .before .before .before .before .args .b)) (c .before .before .before .loop .passed + 1))
+tested c = c .good-mitigant .ensures ∙ ap₂ goodMitigant (c .before .before .before .before .before .u16-at .ensures) (c .before .mitigant-at .ensures)
+
+cast-t10 : tie.Need-cast-t10 Inv-loop μ-loop
+cast-t10 c = omega arith
+
+returns : tie.Need-returns Inv-loop μ-loop
+unfolding mitigantsCheck
+returns c = search-finds (c .before .before .before .before .loop .inv) (omega arith) (sym (tested (c .before)) ∙ not-true _ (c .if1 .taken))
+
+loop-less : tie.Need-loop-less Inv-loop μ-loop
+loop-less c = omega arith
+
+loop-again : tie.Need-loop-again Inv-loop μ-loop
+loop-again c = search-on (c .before .before .before .before .loop .inv) (omega arith) (sym (tested (c .before)) ∙ not-false _ (c .if1 .left))
+
+returns-2 : tie.Need-returns-2 Inv-loop μ-loop
+unfolding mitigantsCheck
+returns-2 c = search-ends (c .before .loop .inv) (omega arith)
+
+pub mitigants-check-spec : {M : Type 1} → statement M
+mitigants-check-spec =
+    tie.close
+    (tie.spec
+    Inv-loop
+    μ-loop
+    u16-at-requires
+    u16-at-requires-2
+    cast-k
+    loop-holds
+    add-place
+    mitigant-at-requires
+    good-mitigant-requires
+    cast-t10
+    returns
+    loop-less
+    loop-again
+    returns-2)

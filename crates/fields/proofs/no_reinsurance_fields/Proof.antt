@@ -1,0 +1,13 @@
+-- `no_reinsurance_fields`: the tests of an asset other than reinsurance, one by one.
+use borrow.Author.Needs.{needs}
+use Rattle.fields.proofs.no_reinsurance_fields.Statement.{statement}
+use Rattle.fields.proofs.no_reinsurance_fields.Tie as tie
+
+does-rise-requires : tie.Need-does-rise-requires
+does-rise-requires c κs = search needs
+
+returns : tie.Need-returns
+returns c = cc
+
+pub no-reinsurance-fields-spec : {M : Type 1} → statement M
+no-reinsurance-fields-spec = tie.close (tie.spec does-rise-requires returns)

@@ -1,0 +1,91 @@
+// Refusals 10 to 12: the tests of one record's fields.
+use book::Asset;
+use book::Mitigant;
+ghost use mathlib.Core.Path.{_≡_};
+ghost use Prim.Native.Nat.{_+_, _*_, _<_, _≤_};
+ghost use lib.ListN.{length};
+ghost use Rattle.words.specs.Words.{if_then_else_};
+ghost use Rattle.book.specs.Check.{goodCounterparty, inBook, noReinsuranceFields, reinsuranceFieldsFit, amountsWithin, goodAsset, goodMitigant};
+
+// The counterparty of a place: parent, grade, kind and flags. From the bytes, since a kind over 4 has no name in `Kind`.
+pub fn good_counterparty(b: &[u8], place: usize) -> bool
+    requires { ⌜ (0 < place) × (place < 65536) × (40 + 4 * place ≤ length (now b)) ⌝ }
+    ensures { λ r. ⌜ r ≡ goodCounterparty (now (b .entry)) place ⌝ }
+{
+    let at = 40 + 4 * (place - 1);
+    let packed = b[at + 2];
+    ((wire::u16_at(b, at) as usize) < place)
+        & (book::low_four(packed) <= 7)
+        & (book::high_four(packed) <= 4)
+        & (b[at + 3] < 8)
+}
+
+// A counterparty of the book, which has c.
+fn in_book(c: u16, place: u16) -> bool
+    ensures { λ r. ⌜ r ≡ inBook c place ⌝ }
+{
+    (1 <= place) & (place <= c)
+}
+
+fn amounts_within(a: Asset) -> bool
+    ensures { λ r. ⌜ r ≡ amountsWithin a ⌝ }
+{
+    (a.value <= book::M)
+        & (a.offsets <= book::M)
+        & (a.deductions <= book::M)
+        & (a.insurance <= book::M)
+        & (a.combination <= book::M)
+}
+
+// What reinsurance alone is held to.
+fn reinsurance_fields_fit(a: Asset) -> bool
+    ensures { λ r. ⌜ r ≡ reinsuranceFieldsFit a ⌝ }
+{
+    ((a.months == 0) | (0 < a.entry)) & (a.offsets <= a.value)
+}
+
+// What only reinsurance may have is absent.
+fn no_reinsurance_fields(a: Asset) -> bool
+    ensures { λ r. ⌜ r ≡ noReinsuranceFields a ⌝ }
+{
+    !book::does_rise(a)
+        & (a.entry == 0)
+        & (a.months == 0)
+        & (a.insurance == 0)
+        & (a.combination == 0)
+}
+
+// One of two answers, both at hand.
+fn choose(t: bool, a: bool, b: bool) -> bool
+    ensures { λ r. ⌜ r ≡ (if t then a else b) ⌝ }
+{
+    if t { a } else { b }
+}
+
+// An asset of a book with c counterparties.
+pub fn good_asset(c: u16, a: Asset) -> bool
+    ensures { λ r. ⌜ r ≡ goodAsset c a ⌝ }
+{
+    (1 <= a.kind)
+        & (a.kind <= 11)
+        & (a.flags < 4)
+        & (a.entry <= 2)
+        & in_book(c, a.counterparty)
+        & amounts_within(a)
+        & choose(
+            book::is_reinsurance(a),
+            reinsurance_fields_fit(a),
+            no_reinsurance_fields(a),
+        )
+}
+
+// A mitigant of a book with c counterparties.
+pub fn good_mitigant(c: u16, m: Mitigant) -> bool
+    ensures { λ r. ⌜ r ≡ goodMitigant c m ⌝ }
+{
+    (1 <= m.form)
+        & (m.form <= 5)
+        & (m.flags < 32)
+        & in_book(c, m.counterparty)
+        & (m.value <= book::M)
+}

@@ -1,0 +1,22 @@
+-- `parent` gives the parent of a place: an accepted book stores it as it is.
+use Rattle.groups.proofs.Laws.{parent-stored}
+use denote.Ref.{now}
+use borrow.Author.Needs.{needs}
+use Rattle.groups.proofs.parent.Statement.{statement}
+use Rattle.groups.proofs.parent.Tie as tie
+
+counterparty-at-requires : tie.Need-counterparty-at-requires
+counterparty-at-requires c κs = search needs
+
+cast-result : tie.Need-cast-result
+cast-result c = search needs
+
+returns : tie.Need-returns
+returns c =
+    let s = c .before .before .before in
+    let e = c .before .counterparty-at .ensures in
+    let h = s .pre .0 .parent (s .args .place) (s .pre .1) (s .pre .2) in
+    (rw e (parent-stored (now (s .args .book)) (s .args .place) h), rw e h)
+
+pub parent-spec : {M : Type 1} → statement M
+parent-spec = tie.close (tie.spec counterparty-at-requires cast-result returns)
