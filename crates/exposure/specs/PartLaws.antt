@@ -1,10 +1,13 @@
--- "Parts and remainder add up to net."
-use mathlib.Core.Bool.{Bool, true, false}
+-- Laws of an asset's parts: covers-le, may-le; parts-sum, parts-net ("Parts and remainder add up to net"); parts-length, holding-length
+-- (an asset that isn't linked gives one exposure for each mitigant and one remainder), linked-none (a linked one gives none).
+use mathlib.Core.Bool.{true, false}
 use mathlib.Core.List.{List, [], _∷_}
-use mathlib.Core.Path.{_≡_}
-use Prim.Native.Nat.{ℕ, _+_, _-_, _/_, _≤_, min}
+use mathlib.Core.Path.{_≡_, refl}
+use Prim.Native.Nat.{ℕ, _+_, _-_, _≤_}
 use native.Mathlib.Omega.{arith}
-use Rattle.words.specs.Words.{if_then_else_, sumOf}
+use lib.ListN.{length}
+use Rattle.words.specs.Words.{sumOf}
+use Rattle.words.specs.Choice.{if-le}
 use Rattle.book.specs.declared.Counterparty.{Counterparty}
 use Rattle.book.specs.declared.Asset.{Asset}
 use Rattle.book.specs.declared.Mitigant.{Mitigant}
@@ -19,19 +22,11 @@ amount x = x .amount
 
 pub covers-le : (a : Asset) (m : Mitigant) (who : Counterparty) (still : ℕ) → covers a m who still ≤ still
 unfolding covers
-covers-le a m who still = by (recognised a m who)
-  where
-    by : (t : Bool) → (if t then min (m .value) still else 0) ≤ still
-    by true = omega arith
-    by false = omega arith
+covers-le a m who still = if-le (recognised a m who) (omega arith) (omega arith)
 
 pub may-le : (B : Book) (a : Asset) → mayBeCovered B a ≤ net a
 unfolding mayBeCovered
-may-le B a = by (halfCovered a (B .counterparty (a .counterparty)))
-  where
-    by : (t : Bool) → (if t then net a / 2 else net a) ≤ net a
-    by true = omega arith
-    by false = omega arith
+may-le B a = if-le (halfCovered a (B .counterparty (a .counterparty))) (omega arith) (omega arith)
 
 pub parts-sum : (B : Book) (a : Asset) (ms : List Mitigant) (still rest : ℕ) → still ≤ rest → sumOf amount (partsOf B a ms still rest) ≡ rest
 unfolding partsOf coveredPart remainder sumOf
@@ -45,3 +40,19 @@ pub parts-net : (B : Book) (h : Holding) → linked (h .asset) ≡ false → sum
 unfolding exposuresOf
 parts-net B h e =
     rw e (parts-sum B (h .asset) (h .mitigants) (mayBeCovered B (h .asset)) (net (h .asset)) (may-le B (h .asset)))
+
+pub parts-length : (B : Book) (a : Asset) (ms : List Mitigant) (still rest : ℕ) → length (partsOf B a ms still rest) ≡ length ms + 1
+unfolding partsOf
+parts-length B a [] still rest = refl
+parts-length B a (m ∷ ms) still rest =
+    let part = covers a m (B .counterparty (m .counterparty)) still in
+    omega (arith, parts-length B a ms (still - part) (rest - part))
+
+pub holding-length : (B : Book) (h : Holding) → linked (h .asset) ≡ false → length (exposuresOf B h) ≡ length (h .mitigants) + 1
+unfolding exposuresOf
+holding-length B h e =
+    rw e (parts-length B (h .asset) (h .mitigants) (mayBeCovered B (h .asset)) (net (h .asset)))
+
+pub linked-none : (B : Book) (h : Holding) → linked (h .asset) ≡ true → exposuresOf B h ≡ []
+unfolding exposuresOf
+linked-none B h e = rw e

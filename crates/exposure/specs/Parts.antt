@@ -1,4 +1,9 @@
 -- "Mitigants (P31 to P43)": the covered parts and the remainder of an asset.
+--   goodCollateral goodGuarantee recognised    whether a mitigant counts
+--   halfCovered mayBeCovered                   what may be covered
+--   covers coveredKind                         what a mitigant covers, and what that becomes
+--   coveredPart remainder partsOf              the exposures of an asset
+--   exposuresOf exposures                      those of a holding and of a book
 use mathlib.Core.Bool.{Bool, true, false, not, _&&_, _||_}
 use mathlib.Core.List.{List, [], _∷_}
 use Prim.Native.Nat.{ℕ, _-_, _/_, min}

@@ -1,4 +1,7 @@
--- Sums of exposures.
+-- Sums over a book.
+--   amountOf                        the exposures that pass a test
+--   exposureOf a3ExposureOf         a group's in a tier
+--   W allNet linkedNet unlimited    the whole fund's
 use mathlib.Core.Bool.{Bool, true, false, not, _&&_, _||_}
 use mathlib.Core.List.{List}
 use Prim.Native.Nat.{ℕ, _+_}
@@ -34,8 +37,10 @@ W B = amountOf (λ x. tierOf B x =? 11 && x .kind =? 3) (exposures B)
 unfoldable pub allNet : Book → ℕ
 allNet B = sumOf (λ (h : Holding). net (h .asset)) (B .holdings)
 
+-- "linked nets"
+unfoldable pub linkedNet : Book → ℕ
+linkedNet B = sumOf (λ (h : Holding). if linked (h .asset) then net (h .asset) else 0) (B .holdings)
+
 -- "unlimited (linked nets and exposures without limit)"
 unfoldable pub unlimited : Book → ℕ
-unlimited B =
-    sumOf (λ (h : Holding). if linked (h .asset) then net (h .asset) else 0) (B .holdings)
-    + amountOf (λ x. tierOf B x =? noLimit) (exposures B)
+unlimited B = linkedNet B + amountOf (λ x. tierOf B x =? noLimit) (exposures B)

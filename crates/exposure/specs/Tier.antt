@@ -1,4 +1,6 @@
--- "Tiers (A1, A2)": the tier of an exposure.
+-- "Tiers (A1, A2)": the tier of an exposure, or noLimit.
+--   tierOf tierBy lowerTier                          by kind and counterparty
+--   reinsuranceTier gradedTier ungradedTier byMonths    of kind 9
 use mathlib.Core.Bool.{Bool, true, false, not, _&&_, _||_}
 use Prim.Native.Nat.{ℕ}
 use Rattle.words.specs.Words.{_≤?_, _=?_, if_then_else_}

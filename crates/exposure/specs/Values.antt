@@ -1,4 +1,9 @@
 -- "Values (P16 to P20, P26, P27)", and refusals 14 and 15.
+--   stressed net                     of an asset
+--   ofReinsurance overReinsurance    an amount where an asset is reinsurance, and its sum over a book
+--   reinsuranceValues allNetted stressedLessNetted    such sums
+--   VAF beforeExcluded VAF′          of a book
+--   fundCheck                        14 and 15
 use mathlib.Core.Bool.{Bool, true, false, _&&_}
 use mathlib.Core.List.{List}
 use Prim.Native.Nat.{ℕ, _+_, _-_, max}
@@ -19,21 +24,33 @@ stressed a = if rises a then max (a .insurance) (a .combination) else a .combina
 unfoldable pub net : Asset → ℕ
 net a = (if reinsurance a then stressed a else a .value) - a .offsets - a .deductions
 
+-- an amount of an asset where it is reinsurance
+abbrev pub ofReinsurance : (Asset → ℕ) → Asset → ℕ
+ofReinsurance amount a = if reinsurance a then amount a else 0
+
 -- the sum of an amount over the book's reinsurance assets
 unfoldable pub overReinsurance : (Asset → ℕ) → Book → ℕ
-overReinsurance amount B = sumOf (λ (h : Holding). if reinsurance (h .asset) then amount (h .asset) else 0) (B .holdings)
+overReinsurance amount B = sumOf (λ (h : Holding). ofReinsurance amount (h .asset)) (B .holdings)
 
 -- "reinsurance values"
 abbrev pub reinsuranceValues : Book → ℕ
 reinsuranceValues B = overReinsurance (λ a. a .value) B
 
--- "VAF = total − all netted"; a reinsurance asset's "offsets are netted liabilities"
+-- "all netted"; a reinsurance asset's "offsets are netted liabilities"
+abbrev pub allNetted : Book → ℕ
+allNetted B = overReinsurance (λ a. a .offsets) B
+
+-- "the sum of (stressed − netted, never below 0)"
+abbrev pub stressedLessNetted : Book → ℕ
+stressedLessNetted B = overReinsurance (λ a. stressed a - a .offsets) B
+
+-- "VAF = total − all netted"
 unfoldable pub VAF : Book → ℕ
-VAF B = B .total - overReinsurance (λ a. a .offsets) B
+VAF B = B .total - allNetted B
 
 -- "total − reinsurance values + the sum of (stressed − netted, never below 0)"
 unfoldable pub beforeExcluded : Book → ℕ
-beforeExcluded B = B .total - reinsuranceValues B + overReinsurance (λ a. stressed a - a .offsets) B
+beforeExcluded B = B .total - reinsuranceValues B + stressedLessNetted B
 
 -- "VAF′ = (..) − excluded"
 unfoldable pub VAF′ : Book → ℕ

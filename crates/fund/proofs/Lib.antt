@@ -1,0 +1,4 @@
+mod Assets
+pub mod Laws
+mod Filling
+mod Worths
