@@ -1,0 +1,3 @@
+pub mod A3
+pub mod Laws
+pub mod Cases

@@ -1,0 +1,7 @@
+pub mod Sums
+pub mod Back
+pub mod Written
+pub mod Size
+pub mod Least
+pub mod Agree
+pub mod Cases

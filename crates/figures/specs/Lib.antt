@@ -1,0 +1,4 @@
+pub mod Fund
+pub mod Report
+pub mod Read
+pub mod LeastCuts

@@ -1,0 +1,7 @@
+pub mod Putting
+pub mod Rows
+pub mod Tiers
+pub mod Groups
+pub mod Counting
+pub mod Whole
+pub mod Cases

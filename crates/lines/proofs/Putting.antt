@@ -1,0 +1,44 @@
+-- Pieces that are put one behind the other into a list.
+use mathlib.Core.Path.{_≡_, refl, ap, sym, _∙_}
+use mathlib.Core.List.{List, [], _++_, append-assoc, append-nil}
+use Prim.Native.Nat.{ℕ, _+_, _≤_}
+use native.Mathlib.Omega.{arith}
+use native.Mathlib.Nat.{add-zero}
+use lib.ListN.{length, length-append, take-append-drop}
+use Rattle.wire.specs.Bytes.{placed}
+use Rattle.wire.proofs.Laws.{then-placed}
+
+-- r₀ at the start, `whole` to be put from `at` on, r now, p the place now, `more` still to be put
+pub record Putting (r₀ : List ℕ) (at : ℕ) (whole r : List ℕ) (p : ℕ) (more : List ℕ) : Type 0 where
+  pub done : List ℕ
+  pub split : done ++ more ≡ whole
+  pub place : p ≡ at + length done
+  pub size : length r ≡ length r₀
+  pub bytes : r ≡ placed r₀ at done
+
+pub put-none : (r : List ℕ) (at : ℕ) → r ≡ placed r at []
+put-none r at = sym (rw (add-zero, append-nil) (take-append-drop at r))
+
+pub put-start : (r₀ : List ℕ) (at : ℕ) (whole : List ℕ) → Putting r₀ at whole r₀ at whole
+put-start r₀ at whole = record { done = []; split = refl; place = omega arith; size = refl; bytes = put-none r₀ at }
+
+module _ {r₀ : List ℕ} {at : ℕ} {whole r : List ℕ} {p : ℕ} {more : List ℕ} (w : Putting r₀ at whole r p more) (h : at + length whole ≤ length r₀) where
+  pub put-room : (new rest : List ℕ) → more ≡ new ++ rest → p + length new ≤ length r
+  put-room new rest e =
+      omega (arith, w .place, w .size, ap length (w .split), length-append (w .done) more, ap length e, length-append new rest)
+
+  pub put-piece : (new rest : List ℕ) {u : List ℕ} {q : ℕ} → more ≡ new ++ rest → q ≡ p + length new → length u ≡ length r → u ≡ placed r p new → Putting r₀ at whole u q rest
+  put-piece new rest {u} {q} e eq lu eu =
+      let room : at + length (w .done) + length new ≤ length r₀ = omega (arith, ap length (w .split), length-append (w .done) more, ap length e, length-append new rest) in
+      record {
+        done = w .done ++ new;
+        split = append-assoc (w .done) new rest ∙ rw (← e) (w .split);
+        place = omega (arith, w .place, length-append (w .done) new);
+        size = lu ∙ w .size;
+        bytes = then-placed r₀ (w .done) new at (length (w .done)) (w .bytes) (rw (w .place) at eu) refl room;
+      }
+
+  pub put-end : more ≡ [] → (p ≡ at + length whole) × (r ≡ placed r₀ at whole)
+  put-end e =
+      let d : w .done ≡ whole = sym (append-nil (w .done)) ∙ rw (← e) (w .split) in
+      (rw (← d) (w .place), rw (← d) (w .bytes))

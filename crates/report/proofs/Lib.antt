@@ -1,0 +1,4 @@
+pub mod Chain
+pub mod Limits
+pub mod Written
+pub mod Tables

@@ -1,0 +1,31 @@
+-- What the exported entries promise.
+--   packed      an answer as one number
+--   Reported    of weightrose_report
+--   Published   of weightrose_published
+use mathlib.Core.Bool.{Bool, true, false}
+use mathlib.Core.List.{List, _++_}
+use mathlib.Core.Path.{_≡_}
+use Prim.Native.Nat.{ℕ, _+_, _*_}
+use lib.ListN.{length, drop}
+use Rattle.words.specs.Words.{_≤?_, if_then_else_}
+use Rattle.refusal.specs.declared.Answer.{Answer}
+use Rattle.refusal.specs.declared.Answer.the-variants.{Report, Refused}
+use Rattle.refusal.specs.Refusals.{numberOf, placeOf}
+use Rattle.schedule.specs.Schedule.{published, scheduleBytes}
+use Rattle.report.specs.Answer.{fundIn, reportOf, answerOf, writtenBy, CutsOf}
+
+-- "A refusal is a number and a place": the number in the high 32 bits, the place in the low ones; for a report its length
+abbrev pub packed : Answer → ℕ
+packed (Report length) = length
+packed (Refused why) = numberOf why * 4294967296 + placeOf why
+
+-- the number r, and the lent bytes `before` and `after`: demands 1 and 2 by the first two parts, demand 3 by the last
+pub record Reported (schedule book before after : List ℕ) (r : ℕ) : Type 0 where
+  pub answer : r ≡ packed (answerOf schedule book (length before))
+  pub bytes : after ≡ writtenBy (answerOf schedule book (length before)) (reportOf schedule book) before
+  pub cuts : CutsOf (answerOf schedule book (length before)) (fundIn schedule book) after
+
+-- "The published schedule (A1 to A3) is a constant of the product": its 122 bytes where they fit
+pub record Published (before after : List ℕ) (r : ℕ) : Type 0 where
+  pub answer : r ≡ (if 122 ≤? length before then 122 else 0)
+  pub bytes : after ≡ (if 122 ≤? length before then scheduleBytes published ++ drop 122 before else before)

@@ -1,0 +1,36 @@
+// The library's exported entries, on numbers and byte slices.
+use refusal::Answer;
+ghost use mathlib.Core.Path.{_≡_};
+ghost use Prim.Native.Nat.{_+_, _*_, _≤_, _<_};
+ghost use lib.ListN.{length};
+ghost use Rattle.weightrose.specs.Exported.{packed, Reported, Published};
+
+// An answer as one number: a refusal's number above its place, or the report's length.
+fn pack(answer: Answer) -> u64
+    ensures { λ r. ⌜ r ≡ packed answer ⌝ }
+{
+    match answer {
+        Answer::Report(length) => length as u64,
+        Answer::Refused(why) => refusal::number(why) * 4294967296 + refusal::place(why),
+    }
+}
+
+// The report of a book under a schedule, into the lent bytes.
+#[no_mangle]
+pub extern "C" fn weightrose_report(schedule: &[u8], book: &[u8], report: &mut [u8]) -> u64
+    ensures { λ r. ⌜ Reported (now (schedule .entry)) (now (book .entry)) (now (report .entry)) (now (report .exit)) r ⌝ }
+{
+    pack(report::report(schedule, book, report))
+}
+
+// The published schedule's 122 bytes, into the lent bytes; 0 and no byte changed where they are fewer.
+#[no_mangle]
+pub extern "C" fn weightrose_published(schedule: &mut [u8]) -> u64
+    ensures { λ r. ⌜ Published (now (schedule .entry)) (now (schedule .exit)) r ⌝ }
+{
+    if schedule.len() < 122 {
+        return 0;
+    }
+    schedule::put_published(schedule);
+    122
+}
