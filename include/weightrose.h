@@ -1,0 +1,296 @@
+/*
+ * weightrose.h - asset concentration charge of a life company's fund (LPS 117)
+ *
+ * Weightrose turns a schedule of limits and a book of assets, both bytes, into a report of the
+ * asset concentration charge, or answers with one refusal.
+ *
+ * Both functions are plain computations over the bytes handed to them: they allocate nothing,
+ * read and write no file, keep nothing between calls and share nothing between threads, so any
+ * number of threads may call them at once, each with a buffer of its own. A call needs at most
+ * 256 KB of stack. No input, however damaged, makes a call fail in any other way than by a
+ * refusal.
+ */
+#ifndef WEIGHTROSE_H
+#define WEIGHTROSE_H
+
+#include <stddef.h>
+#include <stdint.h>
+
+#ifdef __cplusplus
+extern "C" {
+#endif
+
+/* ========================================================================== */
+/*                                   Sizes                                    */
+/* ========================================================================== */
+
+/* Bytes of a schedule: a header of 10, and 8 rows of 14. */
+#define WEIGHTROSE_SCHEDULE_SIZE 122
+
+/* Bytes of a book's header and of its records. A book is a header, then counterparties, then
+ * assets, then mitigants. */
+#define WEIGHTROSE_BOOK_HEADER_SIZE 40
+#define WEIGHTROSE_COUNTERPARTY_SIZE 4
+#define WEIGHTROSE_ASSET_SIZE 48
+#define WEIGHTROSE_MITIGANT_SIZE 12
+
+/* The most records of each sort in a book, and the most bytes of a book. */
+#define WEIGHTROSE_MOST_COUNTERPARTIES 500
+#define WEIGHTROSE_MOST_ASSETS 900
+#define WEIGHTROSE_MOST_MITIGANTS 1500
+#define WEIGHTROSE_MOST_BOOK_SIZE 63240
+
+/* The most that any one amount of a schedule or a book may be, in cents. */
+#define WEIGHTROSE_MOST_AMOUNT INT64_C(10000000000000)
+
+/* Bytes of a report's header and of each of its lines, and the most bytes of a report: a buffer
+ * of that size is never too short. */
+#define WEIGHTROSE_REPORT_HEADER_SIZE 72
+#define WEIGHTROSE_REPORT_LINE_SIZE 40
+#define WEIGHTROSE_MOST_REPORT_SIZE 96072
+
+/* ========================================================================== */
+/*                                  Layouts                                   */
+/* ========================================================================== */
+
+/*
+ * Numbers are little-endian: u16 and u64 unsigned, i64 in two's complement. Amounts are whole
+ * cents, each at most WEIGHTROSE_MOST_AMOUNT. Bytes count from 0, the places of records from 1.
+ * Every bit and byte that is not named below must be 0.
+ *
+ * Schedule
+ *    0  "ACL" and a zero byte
+ *    4  u16  version, 1
+ *    6  u16  percent of a limit kept after the first downgrade step, at most 100
+ *    8  u16  the same after the second
+ *   10       rows c, d, e, f, g, h, i of Attachment A, paragraph 1, and z for its paragraph 3:
+ *            0  u16  VAF rate, per mille, at most 1,500
+ *            2  u16  second VAF rate, likewise
+ *            4  u16  capital base rate, likewise
+ *            6  u64  fixed amount
+ *
+ * Book
+ *    0  "ACB" and a zero byte
+ *    4  u16  version, 1
+ *    6  u16  counterparties
+ *    8  u16  assets
+ *   10  u16  mitigants
+ *   12       four zero bytes
+ *   16  u64  total assets
+ *   24  i64  capital base, from -WEIGHTROSE_MOST_AMOUNT to WEIGHTROSE_MOST_AMOUNT
+ *   32  u64  assets excluded by paragraph 20(b)
+ *   40       counterparties, then assets, then mitigants
+ *
+ * Counterparty
+ *    0  u16  place of its parent, lower than its own; 0 for none
+ *    2       low four bits: grade 0 to 7, 0 for none; high four bits: kind (0 other, 1 bank,
+ *            2 home government, 3 provincial government, 4 registered life company)
+ *    3       bit 0 related, bit 1 approved affiliate, bit 2 approved under item (e), second limb
+ *
+ * Asset
+ *    0       kind: 1 government guaranteed, 2 life policy, 3 bank bill, guarantee or letter,
+ *            4 deposit, 5 guaranteed by a province, 6 traded, 7 loan, 8 property, 9 reinsurance,
+ *            10 premiums owed, 11 any other
+ *    1       bit 0 linked (paragraph 24), bit 1 rises under stress (paragraph 17)
+ *    2       entry class: 0 none, 1 item (e), 2 item (g)
+ *    3       completed months since the downgrade, 255 for 255 or more; needs an entry class
+ *    4  u16  counterparty
+ *    6  u16  how many mitigants are its own
+ *    8  u64  value
+ *   16  u64  offsets; of reinsurance, netted liabilities, at most its value
+ *   24  u64  deductions
+ *   32  u64  insurance stress
+ *   40  u64  combination stress
+ *   Bit 1, entry class, months and stresses are 0 but for reinsurance.
+ *
+ * Mitigant, in the order of the assets
+ *    0       form: 1 cash, 2 government security, 3 debt, 4 guarantee, 5 letter of credit
+ *    1       bit 0 secured and held (paragraph 33), bit 1 terms of paragraph 35 or 36, bit 2 terms
+ *            of paragraph 40, bit 3 terms of paragraph 42(b) to (m), bit 4 same currency
+ *    2  u16  counterparty
+ *    4  u64  value
+ *
+ * The report's layout is below, with the names of its fields.
+ */
+
+/* ========================================================================== */
+/*                                  Answers                                   */
+/* ========================================================================== */
+
+/*
+ * Why a schedule or a book was turned back. The checks are made by rising number, and the answer
+ * is the first that fails.
+ */
+enum weightrose_refusal {
+	/* Nothing was refused: there is a report. */
+	WEIGHTROSE_ACCEPTED = 0,
+	/* The schedule is not of 122 bytes. */
+	WEIGHTROSE_SCHEDULE_LENGTH = 1,
+	/* The schedule does not start with "ACL" and a zero byte. */
+	WEIGHTROSE_SCHEDULE_MARK = 2,
+	/* The schedule's version is not 1. */
+	WEIGHTROSE_SCHEDULE_VERSION = 3,
+	/* The schedule has a rate over 1,500, a percent over 100 or a fixed amount over the most. */
+	WEIGHTROSE_SCHEDULE_RATES = 4,
+	/* The book is shorter than its header of 40 bytes. */
+	WEIGHTROSE_BOOK_LENGTH = 5,
+	/* The book does not start with "ACB" and a zero byte, or bytes 12 to 15 are not zero. */
+	WEIGHTROSE_BOOK_MARK = 6,
+	/* The book's version is not 1. */
+	WEIGHTROSE_BOOK_VERSION = 7,
+	/* The book has more records than it may, or another length than its counts say. */
+	WEIGHTROSE_BOOK_COUNTS = 8,
+	/* The book's total, capital base or excluded assets are out of range. */
+	WEIGHTROSE_BOOK_AMOUNTS = 9,
+	/* A counterparty has a bad field or an unknown bit. The place is its own, from 1. */
+	WEIGHTROSE_COUNTERPARTY = 10,
+	/* An asset has a bad field, an unknown bit or an amount over the most. The place is its own. */
+	WEIGHTROSE_ASSET = 11,
+	/* A mitigant has a bad field, an unknown bit or an amount over the most. The place is its own. */
+	WEIGHTROSE_MITIGANT = 12,
+	/* The assets' counts of mitigants do not add up to the book's mitigants. */
+	WEIGHTROSE_MITIGANT_COUNTS = 13,
+	/* The values of reinsurance assets add up to more than the total assets. */
+	WEIGHTROSE_REINSURANCE_VALUES = 14,
+	/* The assets under stress (VAF', paragraph 20) are below 0 or over the most. */
+	WEIGHTROSE_STRESSED_ASSETS = 15,
+	/* The buffer is shorter than the report. */
+	WEIGHTROSE_BUFFER_SHORT = 16
+};
+
+/* The refusal of an answer of weightrose_report(), WEIGHTROSE_ACCEPTED where there is a report. */
+static inline enum weightrose_refusal
+weightrose_refusal_of(uint64_t answer)
+{
+	return (enum weightrose_refusal)(answer >> 32);
+}
+
+/* The place of a refused record, counted from 1: of the counterparty, asset or mitigant where the
+ * refusal is of one of these, otherwise 0. Only for an answer with a refusal. */
+static inline uint32_t
+weightrose_place_of(uint64_t answer)
+{
+	return (uint32_t)answer;
+}
+
+/* The bytes of the report. Only for an answer without a refusal. */
+static inline size_t
+weightrose_length_of(uint64_t answer)
+{
+	return (size_t)(uint32_t)answer;
+}
+
+/* ========================================================================== */
+/*                                 Functions                                  */
+/* ========================================================================== */
+
+/*
+ * weightrose_report() makes the report of a book under a schedule. It reads 'schedule_len' bytes
+ * at 'schedule' and 'book_len' bytes at 'book', and changes neither. If both are accepted and the
+ * report takes no more than 'report_len' bytes, it writes the report at 'report' and returns its
+ * length; the bytes of the buffer behind the report stay as they were. Otherwise it returns a
+ * refusal and changes no byte of the buffer. The high 32 bits of the answer are the refusal's
+ * number, 0 for none, and the low 32 bits the report's length, or the place of the refused record:
+ * take them apart by weightrose_refusal_of(), weightrose_length_of() and weightrose_place_of(). Any
+ * lengths may be handed in; a book of another length than its header says is refused, as is a
+ * buffer that is too short, so a caller that does not know the length lends
+ * WEIGHTROSE_MOST_REPORT_SIZE bytes. The buffer must be apart from schedule and book, which no
+ * other thread may change during the call. A pointer may be NULL where its length is 0. What is in
+ * the buffer beforehand does not matter and is not read.
+ */
+uint64_t
+weightrose_report(const uint8_t *schedule, size_t schedule_len,
+		  const uint8_t *book, size_t book_len,
+		  uint8_t *report, size_t report_len);
+
+/*
+ * weightrose_published() writes the published schedule (LPS 117, Attachment A, paragraphs 1 to 3),
+ * 122 bytes, at 'schedule' and returns 122; bytes behind these stay as they were. If
+ * 'schedule_len' is below 122, it returns 0 and changes nothing. The schedule it writes is always
+ * accepted by weightrose_report().
+ */
+uint64_t
+weightrose_published(uint8_t *schedule, size_t schedule_len);
+
+/* ========================================================================== */
+/*                             Reading a report                               */
+/* ========================================================================== */
+
+/*
+ * Where the fields of a report stand, in bytes from the start of the report (header) or of the
+ * line. The header's mark is "ACR" and a zero byte, its version 1. Its amounts, and those of a
+ * line, are unsigned numbers of 64 bits, all others of 16 bits but for the tier, a single byte.
+ */
+enum weightrose_header_field {
+	WEIGHTROSE_HEADER_VERSION = 4,
+	WEIGHTROSE_HEADER_LINES = 6,         /* how many lines follow */
+	WEIGHTROSE_HEADER_VAF = 8,           /* value of assets of the fund (paragraph 16) */
+	WEIGHTROSE_HEADER_VAF_STRESSED = 16, /* the same for reinsurance, VAF' (paragraph 20) */
+	WEIGHTROSE_HEADER_ALL_NET = 24,      /* all assets' nets, linked ones too */
+	WEIGHTROSE_HEADER_UNLIMITED = 32,    /* linked nets and exposures without limit */
+	WEIGHTROSE_HEADER_GROUP_EXCESS = 40, /* the excesses of all lines */
+	WEIGHTROSE_HEADER_A3_SUM = 48,       /* reinsurance under Attachment A, paragraph 3 */
+	WEIGHTROSE_HEADER_A3_LIMIT = 56,     /* and its limit */
+	WEIGHTROSE_HEADER_CHARGE = 64        /* the asset concentration charge */
+};
+
+enum weightrose_line_field {
+	WEIGHTROSE_LINE_TOP = 0,      /* place of the group's topmost parent, from 1 */
+	WEIGHTROSE_LINE_TIER = 2,     /* enum weightrose_tier */
+	WEIGHTROSE_LINE_TIER_SET = 4, /* bit n: the group has a line of tier n */
+	WEIGHTROSE_LINE_EXPOSURE = 8,
+	WEIGHTROSE_LINE_LIMIT = 16,
+	WEIGHTROSE_LINE_LEFT = 24,    /* the limit, less what stands in the group's lower tiers */
+	WEIGHTROSE_LINE_EXCESS = 32   /* what of the exposure passes that */
+};
+
+/* The tiers by their numbers: the items of Attachment A, paragraph 1, with reinsurance apart, and
+ * the steps after a downgrade of paragraph 2. */
+enum weightrose_tier {
+	WEIGHTROSE_TIER_I = 0,
+	WEIGHTROSE_TIER_I_REINSURANCE = 1,
+	WEIGHTROSE_TIER_H = 2,
+	WEIGHTROSE_TIER_H_REINSURANCE = 3,
+	WEIGHTROSE_TIER_G_SECOND = 4,
+	WEIGHTROSE_TIER_G_FIRST = 5,
+	WEIGHTROSE_TIER_G = 6,
+	WEIGHTROSE_TIER_E_SECOND = 7,
+	WEIGHTROSE_TIER_E_FIRST = 8,
+	WEIGHTROSE_TIER_E = 9,
+	WEIGHTROSE_TIER_F = 10,
+	WEIGHTROSE_TIER_C = 11,
+	WEIGHTROSE_TIER_D = 12
+};
+
+/* The line of that number, from 0, of a report. */
+static inline const uint8_t *
+weightrose_line(const uint8_t *report, unsigned number)
+{
+	return report + WEIGHTROSE_REPORT_HEADER_SIZE +
+	       (size_t)number * WEIGHTROSE_REPORT_LINE_SIZE;
+}
+
+/* The number of 16 bits at a place. */
+static inline uint16_t
+weightrose_u16(const uint8_t *bytes)
+{
+	return (uint16_t)(bytes[0] | (unsigned)bytes[1] << 8);
+}
+
+/* The number of 64 bits at a place. */
+static inline uint64_t
+weightrose_u64(const uint8_t *bytes)
+{
+	uint64_t number = 0;
+	int i;
+
+	for (i = 7; i >= 0; i--)
+		number = number << 8 | bytes[i];
+	return number;
+}
+
+#ifdef __cplusplus
+}
+#endif
+
+#endif /* WEIGHTROSE_H */

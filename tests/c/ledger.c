@@ -1,0 +1,527 @@
+/*
+ * A ledger that asks for the asset concentration charge of its own records.
+ *
+ * It writes its records as a book, takes the published schedule from the library, asks for the
+ * report, walks the report's lines and prints them, and names every refusal in a sentence. It
+ * checks itself against document 01's figures (T2, T4, T5 and the table of refusals) and ends with
+ * status 1 where one differs. Each block is as long as its bytes, so that a memory checker sees
+ * any byte read or written past its end.
+ */
+#include "weightrose.h"
+
+#include <inttypes.h>
+#include <stdio.h>
+#include <stdlib.h>
+#include <string.h>
+
+/* ---- The ledger's own records ---- */
+
+enum { NO_PARENT = 0, BANK = 1, UNGRADED = 0 };
+enum { BANK_BILL = 3, DEPOSIT = 4, TRADED = 6, REINSURANCE = 9, ANY_OTHER = 11 };
+enum { CASH = 1 };
+
+struct counterparty {
+	uint16_t parent;
+	uint8_t kind, grade, flags;
+};
+
+struct mitigant {
+	uint8_t form, flags;
+	uint16_t counterparty;
+	uint64_t value;
+};
+
+struct asset {
+	uint8_t kind;
+	uint16_t counterparty;
+	uint64_t value, combination_stress;
+	uint16_t mitigants;
+};
+
+struct ledger {
+	uint64_t total_assets;
+	int64_t capital_base;
+	uint64_t excluded_assets;
+	const struct counterparty *counterparties;
+	size_t counterparty_count;
+	const struct asset *assets;
+	size_t asset_count;
+	const struct mitigant *mitigants;
+	size_t mitigant_count;
+};
+
+static const struct ledger empty_ledger = { 0, 0, 0, NULL, 0, NULL, 0, NULL, 0 };
+
+#define COUNT(array) (sizeof(array) / sizeof((array)[0]))
+
+/* ---- Records to bytes ---- */
+
+/* A block that is just as long as its bytes. */
+struct block {
+	uint8_t *bytes;
+	size_t length;
+};
+
+static struct block
+new_block(size_t length)
+{
+	struct block block;
+
+	block.bytes = (uint8_t *)malloc(length ? length : 1);
+	block.length = length;
+	if (!block.bytes)
+		abort();
+	return block;
+}
+
+/* Each of these writes at 'to' and returns the place behind. */
+
+static uint8_t *
+put_u8(uint8_t *to, uint8_t number)
+{
+	*to = number;
+	return to + 1;
+}
+
+static uint8_t *
+put_u16(uint8_t *to, uint16_t number)
+{
+	to = put_u8(to, (uint8_t)(number & 0xff));
+	return put_u8(to, (uint8_t)(number >> 8));
+}
+
+static uint8_t *
+put_u64(uint8_t *to, uint64_t number)
+{
+	int i;
+
+	for (i = 0; i < 8; i++)
+		to = put_u8(to, (uint8_t)(number >> 8 * i & 0xff));
+	return to;
+}
+
+static uint8_t *
+put_header(uint8_t *to, const struct ledger *ledger)
+{
+	memcpy(to, "ACB", 4);
+	to = put_u16(to + 4, 1);
+	to = put_u16(to, (uint16_t)ledger->counterparty_count);
+	to = put_u16(to, (uint16_t)ledger->asset_count);
+	to = put_u16(to, (uint16_t)ledger->mitigant_count);
+	memset(to, 0, 4);
+	to = put_u64(to + 4, ledger->total_assets);
+	to = put_u64(to, (uint64_t)ledger->capital_base);
+	return put_u64(to, ledger->excluded_assets);
+}
+
+static uint8_t *
+put_counterparty(uint8_t *to, const struct counterparty *counterparty)
+{
+	to = put_u16(to, counterparty->parent);
+	to = put_u8(to, (uint8_t)(counterparty->kind << 4 | counterparty->grade));
+	return put_u8(to, counterparty->flags);
+}
+
+static uint8_t *
+put_asset(uint8_t *to, const struct asset *asset)
+{
+	to = put_u8(to, asset->kind);
+	memset(to, 0, 3); /* flags, entry class, months */
+	to = put_u16(to + 3, asset->counterparty);
+	to = put_u16(to, asset->mitigants);
+	to = put_u64(to, asset->value);
+	to = put_u64(to, 0); /* offsets */
+	to = put_u64(to, 0); /* deductions */
+	to = put_u64(to, 0); /* insurance stress */
+	return put_u64(to, asset->combination_stress);
+}
+
+static uint8_t *
+put_mitigant(uint8_t *to, const struct mitigant *mitigant)
+{
+	to = put_u8(to, mitigant->form);
+	to = put_u8(to, mitigant->flags);
+	to = put_u16(to, mitigant->counterparty);
+	return put_u64(to, mitigant->value);
+}
+
+static struct block
+new_book(const struct ledger *ledger)
+{
+	struct block book = new_block(WEIGHTROSE_BOOK_HEADER_SIZE +
+				      WEIGHTROSE_COUNTERPARTY_SIZE * ledger->counterparty_count +
+				      WEIGHTROSE_ASSET_SIZE * ledger->asset_count +
+				      WEIGHTROSE_MITIGANT_SIZE * ledger->mitigant_count);
+	uint8_t *to = put_header(book.bytes, ledger);
+	size_t i;
+
+	for (i = 0; i < ledger->counterparty_count; i++)
+		to = put_counterparty(to, &ledger->counterparties[i]);
+	for (i = 0; i < ledger->asset_count; i++)
+		to = put_asset(to, &ledger->assets[i]);
+	for (i = 0; i < ledger->mitigant_count; i++)
+		to = put_mitigant(to, &ledger->mitigants[i]);
+	if (to != book.bytes + book.length)
+		abort();
+	return book;
+}
+
+static struct block
+new_schedule(void)
+{
+	struct block schedule = new_block(WEIGHTROSE_SCHEDULE_SIZE);
+
+	if (weightrose_published(schedule.bytes, schedule.length) != WEIGHTROSE_SCHEDULE_SIZE)
+		abort();
+	return schedule;
+}
+
+/* ---- Answers ---- */
+
+/* What the ledger tells its user. The compiler warns of a refusal that has no sentence. */
+static const char *
+sentence(enum weightrose_refusal refusal)
+{
+	switch (refusal) {
+	case WEIGHTROSE_ACCEPTED:
+		return "The report was made.";
+	case WEIGHTROSE_SCHEDULE_LENGTH:
+		return "The schedule is not of 122 bytes.";
+	case WEIGHTROSE_SCHEDULE_MARK:
+		return "The schedule's file is not a schedule.";
+	case WEIGHTROSE_SCHEDULE_VERSION:
+		return "The schedule is of a version that is not known here.";
+	case WEIGHTROSE_SCHEDULE_RATES:
+		return "A rate, a percent or a fixed amount of the schedule is too large.";
+	case WEIGHTROSE_BOOK_LENGTH:
+		return "The book has not even a header.";
+	case WEIGHTROSE_BOOK_MARK:
+		return "The book's bytes are not a book.";
+	case WEIGHTROSE_BOOK_VERSION:
+		return "The book is of a version that is not known here.";
+	case WEIGHTROSE_BOOK_COUNTS:
+		return "The book has too many records, or is not as long as it says.";
+	case WEIGHTROSE_BOOK_AMOUNTS:
+		return "The fund's total, capital base or excluded assets are out of range.";
+	case WEIGHTROSE_COUNTERPARTY:
+		return "A counterparty's record is bad.";
+	case WEIGHTROSE_ASSET:
+		return "An asset's record is bad.";
+	case WEIGHTROSE_MITIGANT:
+		return "A mitigant's record is bad.";
+	case WEIGHTROSE_MITIGANT_COUNTS:
+		return "The assets do not share out all mitigants.";
+	case WEIGHTROSE_REINSURANCE_VALUES:
+		return "Reinsurance is worth more than all assets.";
+	case WEIGHTROSE_STRESSED_ASSETS:
+		return "The assets under stress are below zero or too large.";
+	case WEIGHTROSE_BUFFER_SHORT:
+		return "The buffer is too short for the report.";
+	}
+	return "The answer is not one of this library's.";
+}
+
+static void
+print_report(const uint8_t *report)
+{
+	unsigned lines = weightrose_u16(report + WEIGHTROSE_HEADER_LINES);
+	unsigned i;
+
+	for (i = 0; i < lines; i++) {
+		const uint8_t *line = weightrose_line(report, i);
+
+		printf("  group %u tier %u: exposure %" PRIu64 ", limit %" PRIu64 ", left %" PRIu64
+		       ", excess %" PRIu64 "\n",
+		       (unsigned)weightrose_u16(line + WEIGHTROSE_LINE_TOP),
+		       (unsigned)line[WEIGHTROSE_LINE_TIER],
+		       weightrose_u64(line + WEIGHTROSE_LINE_EXPOSURE),
+		       weightrose_u64(line + WEIGHTROSE_LINE_LIMIT),
+		       weightrose_u64(line + WEIGHTROSE_LINE_LEFT),
+		       weightrose_u64(line + WEIGHTROSE_LINE_EXCESS));
+	}
+	printf("  charge %" PRIu64 "\n", weightrose_u64(report + WEIGHTROSE_HEADER_CHARGE));
+}
+
+/* ---- Checks ---- */
+
+static int failures;
+
+static void
+expect(int holds, const char *what)
+{
+	if (!holds) {
+		fprintf(stderr, "ledger: %s\n", what);
+		failures++;
+	}
+}
+
+/* The report of a ledger, in a block of its length; the caller frees it. */
+static struct block
+new_report(const char *name, const struct ledger *ledger)
+{
+	struct block schedule = new_schedule();
+	struct block book = new_book(ledger);
+	struct block room = new_block(WEIGHTROSE_MOST_REPORT_SIZE);
+	struct block report;
+	uint64_t answer = weightrose_report(schedule.bytes, schedule.length, book.bytes, book.length,
+					    room.bytes, room.length);
+
+	printf("%s: %s\n", name, sentence(weightrose_refusal_of(answer)));
+	if (weightrose_refusal_of(answer) != WEIGHTROSE_ACCEPTED)
+		exit(EXIT_FAILURE);
+	report = new_block(weightrose_length_of(answer));
+	expect(weightrose_report(schedule.bytes, schedule.length, book.bytes, book.length,
+				 report.bytes, report.length) == answer,
+	       "a buffer of the report's length gave another answer");
+	expect(memcmp(report.bytes, room.bytes, report.length) == 0,
+	       "a buffer of the report's length gave another report");
+	print_report(report.bytes);
+	free(schedule.bytes);
+	free(book.bytes);
+	free(room.bytes);
+	return report;
+}
+
+static void
+expect_charge(const char *name, const struct ledger *ledger, uint64_t charge)
+{
+	struct block report = new_report(name, ledger);
+
+	expect(weightrose_u64(report.bytes + WEIGHTROSE_HEADER_CHARGE) == charge, name);
+	free(report.bytes);
+}
+
+/* A ledger over whole arrays, with document 01's total and base. */
+static struct ledger
+ledger_of(const struct counterparty *counterparties, size_t counterparty_count,
+	  const struct asset *assets, size_t asset_count)
+{
+	struct ledger ledger;
+
+	memset(&ledger, 0, sizeof(ledger));
+	ledger.total_assets = UINT64_C(10000000000);
+	ledger.capital_base = INT64_C(1000000000);
+	ledger.counterparties = counterparties;
+	ledger.counterparty_count = counterparty_count;
+	ledger.assets = assets;
+	ledger.asset_count = asset_count;
+	return ledger;
+}
+
+static void
+expect_line(const uint8_t *line, unsigned tier, const uint64_t amounts[4])
+{
+	int i;
+
+	expect(weightrose_u16(line + WEIGHTROSE_LINE_TOP) == 1, "T2: a line's group");
+	expect(line[WEIGHTROSE_LINE_TIER] == tier, "T2: a line's tier");
+	expect(weightrose_u16(line + WEIGHTROSE_LINE_TIER_SET) ==
+	       (1 << WEIGHTROSE_TIER_I | 1 << WEIGHTROSE_TIER_H), "T2: the group's tiers");
+	for (i = 0; i < 4; i++)
+		expect(weightrose_u64(line + WEIGHTROSE_LINE_EXPOSURE + 8 * i) == amounts[i],
+		       "T2: an amount of a line");
+}
+
+static void
+t2(void)
+{
+	static const struct counterparty names[] = { { NO_PARENT, 0, UNGRADED, 0 } };
+	static const struct asset assets[] = {
+		{ ANY_OTHER, 1, 300000000, 0, 0 },
+		{ TRADED, 1, 300000000, 0, 0 },
+	};
+	static const uint64_t first[4] = { 300000000, 250000000, 250000000, 50000000 };
+	static const uint64_t second[4] = { 300000000, 500000000, 250000000, 50000000 };
+	struct ledger ledger = ledger_of(names, COUNT(names), assets, COUNT(assets));
+	struct block report = new_report("T2", &ledger);
+
+	expect(report.length == WEIGHTROSE_REPORT_HEADER_SIZE + 2 * WEIGHTROSE_REPORT_LINE_SIZE,
+	       "T2: the report's length");
+	expect(memcmp(report.bytes, "ACR\0\1\0\2\0", 8) == 0, "T2: the report's first bytes");
+	expect_line(weightrose_line(report.bytes, 0), WEIGHTROSE_TIER_I, first);
+	expect_line(weightrose_line(report.bytes, 1), WEIGHTROSE_TIER_H, second);
+	expect(weightrose_u64(report.bytes + WEIGHTROSE_HEADER_CHARGE) == 100000000, "T2: the charge");
+	free(report.bytes);
+}
+
+static void
+t4_and_t5(void)
+{
+	static const struct counterparty banks[] = { { NO_PARENT, BANK, 1, 0 }, { NO_PARENT, BANK, 1, 0 } };
+	static const struct asset two_banks[] = {
+		{ DEPOSIT, 1, UINT64_C(4000000000), 0, 0 },
+		{ BANK_BILL, 2, UINT64_C(1000000000), 0, 0 },
+	};
+	static const struct asset one_more[] = {
+		{ DEPOSIT, 1, UINT64_C(4000000000), 0, 0 },
+		{ BANK_BILL, 2, UINT64_C(1000000001), 0, 0 },
+	};
+	static const struct asset one_bank[] = {
+		{ DEPOSIT, 1, UINT64_C(4000000000), 0, 0 },
+		{ BANK_BILL, 1, UINT64_C(1000000000), 0, 0 },
+	};
+	struct ledger ledger = ledger_of(banks, COUNT(banks), two_banks, COUNT(two_banks));
+
+	expect_charge("T4", &ledger, 0);
+	ledger.assets = one_more;
+	expect_charge("T4, bills one more", &ledger, 1);
+	ledger.assets = one_bank;
+	expect_charge("T5", &ledger, UINT64_C(1000000000));
+}
+
+/* ---- Refusals: a good schedule and a good book with one thing changed ---- */
+
+/* Asks with a buffer of that length and expects the refusal, its place and an untouched buffer. */
+static void
+expect_refusal(struct block schedule, struct block book, size_t room,
+	       enum weightrose_refusal refusal, uint32_t place)
+{
+	struct block report = new_block(room);
+	uint64_t answer;
+	size_t i;
+
+	memset(report.bytes, 0xa5, report.length);
+	answer = weightrose_report(schedule.bytes, schedule.length, book.bytes, book.length,
+				   report.bytes, report.length);
+	printf("refusal %d at %" PRIu32 ": %s\n", (int)weightrose_refusal_of(answer),
+	       weightrose_place_of(answer), sentence(weightrose_refusal_of(answer)));
+	expect(weightrose_refusal_of(answer) == refusal, sentence(refusal));
+	expect(weightrose_place_of(answer) == place, "a refusal's place");
+	for (i = 0; i < report.length; i++)
+		expect(report.bytes[i] == 0xa5, "a refusal changed the buffer");
+	free(report.bytes);
+}
+
+/* The same with one byte of the schedule, or of the book, changed. */
+
+static void
+expect_schedule_refused(size_t place, uint8_t byte, enum weightrose_refusal refusal)
+{
+	struct block schedule = new_schedule();
+	struct block book = new_book(&empty_ledger);
+
+	schedule.bytes[place] = byte;
+	expect_refusal(schedule, book, WEIGHTROSE_REPORT_HEADER_SIZE, refusal, 0);
+	free(schedule.bytes);
+	free(book.bytes);
+}
+
+static void
+expect_book_refused(const struct ledger *ledger, size_t place, uint8_t byte,
+		    enum weightrose_refusal refusal, uint32_t record)
+{
+	struct block schedule = new_schedule();
+	struct block book = new_book(ledger);
+
+	book.bytes[place] = byte;
+	expect_refusal(schedule, book, WEIGHTROSE_REPORT_HEADER_SIZE, refusal, record);
+	free(schedule.bytes);
+	free(book.bytes);
+}
+
+static void
+expect_ledger_refused(const struct ledger *ledger, enum weightrose_refusal refusal, uint32_t record)
+{
+	expect_book_refused(ledger, 0, 'A', refusal, record);
+}
+
+/* The lengths: 1, 5 and 16. An empty block may have no address. */
+static void
+length_refusals(void)
+{
+	const struct block none = { NULL, 0 };
+	struct block schedule = new_schedule();
+	struct block book = new_book(&empty_ledger);
+	struct block short_schedule = new_block(WEIGHTROSE_SCHEDULE_SIZE - 1);
+
+	memcpy(short_schedule.bytes, schedule.bytes, short_schedule.length);
+	expect_refusal(short_schedule, book, 0, WEIGHTROSE_SCHEDULE_LENGTH, 0);
+	expect_refusal(none, none, 0, WEIGHTROSE_SCHEDULE_LENGTH, 0);
+	expect_refusal(schedule, none, WEIGHTROSE_REPORT_HEADER_SIZE, WEIGHTROSE_BOOK_LENGTH, 0);
+	expect_refusal(schedule, book, WEIGHTROSE_REPORT_HEADER_SIZE - 1, WEIGHTROSE_BUFFER_SHORT, 0);
+	expect(weightrose_refusal_of(weightrose_report(schedule.bytes, schedule.length, book.bytes,
+						       book.length, NULL, 0)) == WEIGHTROSE_BUFFER_SHORT,
+	       "no buffer at all");
+	free(schedule.bytes);
+	free(book.bytes);
+	free(short_schedule.bytes);
+}
+
+static void
+byte_refusals(void)
+{
+	expect_schedule_refused(2, 'B', WEIGHTROSE_SCHEDULE_MARK);
+	expect_schedule_refused(4, 2, WEIGHTROSE_SCHEDULE_VERSION);
+	expect_schedule_refused(11, 6, WEIGHTROSE_SCHEDULE_RATES); /* row c's rate: 250 + 6 * 256 */
+	expect_book_refused(&empty_ledger, 12, 1, WEIGHTROSE_BOOK_MARK, 0);
+	expect_book_refused(&empty_ledger, 4, 0, WEIGHTROSE_BOOK_VERSION, 0);
+	expect_book_refused(&empty_ledger, 8, 1, WEIGHTROSE_BOOK_COUNTS, 0);
+}
+
+static void
+amount_refusals(void)
+{
+	static const struct counterparty names[] = { { NO_PARENT, 0, UNGRADED, 0 } };
+	static const struct asset five[] = { { REINSURANCE, 1, 5, 5, 0 } };
+	struct ledger ledger = ledger_of(names, COUNT(names), five, COUNT(five));
+
+	ledger.capital_base = -WEIGHTROSE_MOST_AMOUNT - 1;
+	expect_ledger_refused(&ledger, WEIGHTROSE_BOOK_AMOUNTS, 0);
+	ledger.capital_base = 0;
+	ledger.total_assets = 4;
+	expect_ledger_refused(&ledger, WEIGHTROSE_REINSURANCE_VALUES, 0);
+	ledger.total_assets = 5;
+	ledger.excluded_assets = 6;
+	expect_ledger_refused(&ledger, WEIGHTROSE_STRESSED_ASSETS, 0);
+}
+
+static void
+record_refusals(void)
+{
+	static const struct counterparty own_parent[] = { { NO_PARENT, BANK, 1, 0 }, { 2, BANK, 1, 0 } };
+	static const struct asset nobodys[] = { { ANY_OTHER, 1, 1, 0, 1 }, { ANY_OTHER, 0, 1, 0, 0 } };
+	static const struct mitigant formless[] = { { 6, 0, 1, 1 } };
+	static const struct mitigant cash[] = { { CASH, 0, 1, 1 } };
+	struct ledger ledger = ledger_of(own_parent, COUNT(own_parent), NULL, 0);
+
+	expect_ledger_refused(&ledger, WEIGHTROSE_COUNTERPARTY, 2);
+	ledger.counterparty_count = 1;
+	ledger.assets = nobodys;
+	ledger.asset_count = COUNT(nobodys);
+	expect_ledger_refused(&ledger, WEIGHTROSE_ASSET, 2);
+	ledger.asset_count = 1;
+	ledger.mitigants = formless;
+	ledger.mitigant_count = COUNT(formless);
+	expect_ledger_refused(&ledger, WEIGHTROSE_MITIGANT, 1);
+	ledger.asset_count = 0;
+	ledger.mitigants = cash;
+	expect_ledger_refused(&ledger, WEIGHTROSE_MITIGANT_COUNTS, 0);
+}
+
+static void
+published_into_too_little(void)
+{
+	struct block block = new_block(WEIGHTROSE_SCHEDULE_SIZE - 1);
+	size_t i;
+
+	memset(block.bytes, 0xa5, block.length);
+	expect(weightrose_published(block.bytes, block.length) == 0, "121 bytes are too few");
+	for (i = 0; i < block.length; i++)
+		expect(block.bytes[i] == 0xa5, "a schedule was written in part");
+	expect(weightrose_published(NULL, 0) == 0, "no bytes are too few");
+	free(block.bytes);
+}
+
+int
+main(void)
+{
+	t2();
+	t4_and_t5();
+	length_refusals();
+	byte_refusals();
+	amount_refusals();
+	record_refusals();
+	published_into_too_little();
+	printf("ledger: %d failures\n", failures);
+	return failures ? EXIT_FAILURE : EXIT_SUCCESS;
+}

@@ -1,0 +1,185 @@
+//! Times the library beside the second implementation and, where the build was given one, a
+//! yardstick, on four books, and how the library's time grows with the book.
+//!
+//! Rounds of about a millisecond are taken in turn (the slow second implementation in every tenth
+//! alone), and each subject's best round counts. A call is a whole one: checks, report and all.
+//! Every call writes into the same buffer, which is not cleared in between. Before anything is
+//! timed, all subjects must agree on each book.
+
+use std::hint::black_box;
+use std::time::{Duration, Instant};
+use weightrose_tests::inputs::{lifelike, Parents, Shape};
+use weightrose_tests::random::Random;
+use weightrose_tests::weightrose::{packed_report, published, Answer, LARGEST_REPORT};
+use weightrose_tests::{second, weightrose};
+
+/// Books of each shape, so that no call meets the book of the call before.
+const BOOKS: u64 = 16;
+const ROUNDS: usize = 300;
+const ROUND: Duration = Duration::from_millis(1);
+
+type Report = fn(&[u8], &[u8], &mut [u8]) -> u64;
+
+struct Subject {
+    name: &'static str,
+    report: Report,
+    /// It takes part in each round whose number this divides.
+    every: usize,
+}
+
+fn subjects() -> Vec<Subject> {
+    let second: Report = |schedule, book, buffer| second::report(schedule, book, buffer).packed();
+    #[allow(unused_mut)]
+    let mut subjects = vec![
+        Subject { name: "library", report: packed_report, every: 1 },
+        Subject { name: "second", report: second, every: 10 },
+    ];
+    #[cfg(yardstick)]
+    subjects.push(Subject { name: "yardstick", report: yardstick::report, every: 1 });
+    subjects
+}
+
+#[cfg(yardstick)]
+mod yardstick {
+    extern "C" {
+        fn peer_report(
+            schedule: *const u8,
+            schedule_len: usize,
+            book: *const u8,
+            book_len: usize,
+            report: *mut u8,
+            report_len: usize,
+        ) -> u64;
+    }
+
+    pub fn report(schedule: &[u8], book: &[u8], buffer: &mut [u8]) -> u64 {
+        // SAFETY: each pointer is that of a slice and stands beside the slice's length.
+        unsafe {
+            peer_report(
+                schedule.as_ptr(),
+                schedule.len(),
+                book.as_ptr(),
+                book.len(),
+                buffer.as_mut_ptr(),
+                buffer.len(),
+            )
+        }
+    }
+}
+
+struct Case {
+    name: &'static str,
+    shape: Shape,
+}
+
+fn case(name: &'static str, records: [u64; 3], parents: Parents) -> Case {
+    let [counterparties, assets, mitigants] = records;
+    Case { name, shape: Shape { counterparties, assets, mitigants, parents } }
+}
+
+const EIGHTH: [u64; 3] = [62, 112, 187];
+const WHOLE: [u64; 3] = [500, 900, 1_500];
+
+fn cases() -> Vec<Case> {
+    vec![
+        case("small", [5, 20, 10], Parents::Some),
+        case("typical", [120, 400, 300], Parents::Some),
+        case("maximal", WHOLE, Parents::None),
+        case("maximal, chain of parents", WHOLE, Parents::Chain),
+    ]
+}
+
+fn books(shape: &Shape) -> Vec<Vec<u8>> {
+    (0..BOOKS).map(|number| lifelike(&mut Random::new(117, number), shape).bytes()).collect()
+}
+
+/// All subjects must accept each book and write the same report.
+fn check(name: &str, subjects: &[Subject], books: &[Vec<u8>]) {
+    let schedule = published();
+    for book in books {
+        let run = |subject: &Subject| {
+            let mut buffer = vec![0xa5; LARGEST_REPORT];
+            ((subject.report)(&schedule, book, &mut buffer), buffer)
+        };
+        let first = run(&subjects[0]);
+        assert!(matches!(Answer::unpacked(first.0), Some(Answer::Report(_))), "{name}: refused");
+        assert!(subjects.iter().all(|subject| run(subject) == first), "{name}: the reports differ");
+    }
+}
+
+/// Time of one call, over so many turns of all books.
+fn time(report: Report, books: &[Vec<u8>], buffer: &mut [u8], turns: u32) -> f64 {
+    let schedule = published();
+    let start = Instant::now();
+    for _ in 0..turns {
+        for book in books {
+            black_box(report(black_box(&schedule), black_box(book), buffer));
+        }
+    }
+    start.elapsed().as_nanos() as f64 / f64::from(turns) / books.len() as f64
+}
+
+/// Nanoseconds of a call, for each subject: the best of interleaved rounds.
+fn best(subjects: &[Subject], books: &[Vec<u8>]) -> Vec<f64> {
+    let mut buffer = vec![0; LARGEST_REPORT];
+    let mut best: Vec<f64> =
+        subjects.iter().map(|subject| time(subject.report, books, &mut buffer, 2)).collect();
+    let turn = |call: &f64| 1 + (ROUND.as_nanos() as f64 / (call * books.len() as f64)) as u32;
+    let turns: Vec<u32> = best.iter().map(turn).collect();
+    for round in 0..ROUNDS {
+        let order = (0..subjects.len()).map(|place| (round + place) % subjects.len());
+        for number in order.filter(|&number| round % subjects[number].every == 0) {
+            let call = time(subjects[number].report, books, &mut buffer, turns[number]);
+            best[number] = best[number].min(call);
+        }
+    }
+    best
+}
+
+fn print_row(cells: &[String]) {
+    println!("| {} |", cells.join(" | "));
+}
+
+fn compare_subjects(subjects: &[Subject]) {
+    let mut head = vec!["book".to_string(), "bytes".to_string()];
+    head.extend(subjects.iter().map(|subject| format!("{}, µs", subject.name)));
+    head.extend(subjects[1..].iter().map(|subject| format!("library / {}", subject.name)));
+    print_row(&head);
+    print_row(&vec!["---".to_string(); head.len()]);
+    for Case { name, shape } in cases() {
+        let books = books(&shape);
+        check(name, subjects, &books);
+        let best = best(subjects, &books);
+        let mut row = vec![name.to_string(), books[0].len().to_string()];
+        row.extend(best.iter().map(|call| format!("{:.2}", call / 1_000.0)));
+        row.extend(best[1..].iter().map(|call| format!("{:.3}", best[0] / call)));
+        print_row(&row);
+    }
+}
+
+/// From an eighth of the maximal book to the whole: 8 is growth in step with the book.
+fn growth(library: &[Subject]) {
+    println!("\nThe library from an eighth of the maximal book to the whole:");
+    for (name, parents) in
+        [("without parents", Parents::None), ("chain of parents", Parents::Chain)]
+    {
+        let [eighth, whole] = [EIGHTH, WHOLE].map(|records| {
+            let books = books(&case(name, records, parents).shape);
+            best(library, &books)[0]
+        });
+        let times = whole / eighth;
+        println!(
+            "- {name}: {:.2} to {:.2} µs, {times:.1} times",
+            eighth / 1_000.0,
+            whole / 1_000.0
+        );
+    }
+}
+
+fn main() {
+    println!("Best of {ROUNDS} interleaved rounds over {BOOKS} books each; one buffer of");
+    println!("{} bytes, not cleared between calls.\n", weightrose::LARGEST_REPORT);
+    let subjects = subjects();
+    compare_subjects(&subjects);
+    growth(&subjects[..1]);
+}

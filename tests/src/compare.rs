@@ -1,0 +1,100 @@
+//! One comparison: two subjects answer the same schedule and book, each with a buffer of its own
+//! between guard bytes, and must agree on the answer and on every byte.
+
+use crate::inputs::{Input, Room};
+use crate::second;
+
+/// Guard bytes on each side of a lent buffer.
+pub const GUARD: usize = 64;
+
+/// A lent buffer inside a larger area, so that bytes written beside it can be seen.
+pub struct Lent<'a> {
+    area: &'a mut [u8],
+}
+
+impl Lent<'_> {
+    /// The buffer itself.
+    pub fn buffer(&mut self) -> &mut [u8] {
+        let end = self.area.len() - GUARD;
+        &mut self.area[GUARD..end]
+    }
+
+    /// The buffer with its guard bytes, for subjects that are to be caught.
+    pub fn area(&mut self) -> &mut [u8] {
+        self.area
+    }
+}
+
+/// Answers a schedule and a book as the library does, packed.
+pub type Subject<'a> = &'a dyn Fn(&[u8], &[u8], &mut Lent) -> u64;
+
+/// What a subject left: its answer, and the buffer with its guard bytes.
+#[derive(Clone, Debug, PartialEq, Eq)]
+pub struct Outcome {
+    pub answer: u64,
+    pub area: Vec<u8>,
+}
+
+/// The byte that stands at a place of the area before the call.
+fn filling(place: usize) -> u8 {
+    (place * 151 + 89) as u8
+}
+
+pub fn outcome(subject: Subject, input: &Input, room: usize) -> Outcome {
+    let mut area: Vec<u8> = (0..room + 2 * GUARD).map(filling).collect();
+    let answer = subject(&input.schedule, &input.book, &mut Lent { area: &mut area });
+    Outcome { answer, area }
+}
+
+/// The buffer's length for an input: where the report decides, by the second implementation's.
+pub fn room(input: &Input) -> usize {
+    match input.room {
+        Room::Bytes(bytes) => bytes,
+        Room::Beside(more) => {
+            let length = second::length(&input.schedule, &input.book).unwrap_or(0);
+            (length as i64 + more).max(0) as usize
+        }
+    }
+}
+
+/// Where two outcomes part.
+pub struct Difference {
+    pub answers: [u64; 2],
+    /// The first byte that differs, counted from the buffer's start.
+    pub byte: Option<i64>,
+}
+
+impl std::fmt::Display for Difference {
+    fn fmt(&self, out: &mut std::fmt::Formatter) -> std::fmt::Result {
+        let [one, other] = self.answers;
+        write!(out, "answers {one:#x} and {other:#x}, ")?;
+        match self.byte {
+            Some(byte) => write!(out, "bytes differ first at {byte}"),
+            None => write!(out, "bytes the same"),
+        }
+    }
+}
+
+/// Both subjects on one input: what both left, or where they part.
+pub fn compare(one: Subject, other: Subject, input: &Input) -> Result<Outcome, Difference> {
+    let room = room(input);
+    let (one, other) = (outcome(one, input, room), outcome(other, input, room));
+    if one == other {
+        return Ok(one);
+    }
+    let byte = one.area.iter().zip(&other.area).position(|(one, other)| one != other);
+    Err(Difference {
+        answers: [one.answer, other.answer],
+        byte: byte.map(|place| place as i64 - GUARD as i64),
+    })
+}
+
+/// The library, as a subject.
+pub fn library(schedule: &[u8], book: &[u8], lent: &mut Lent) -> u64 {
+    crate::weightrose::packed_report(schedule, book, lent.buffer())
+}
+
+/// The second implementation, as a subject.
+pub fn second(schedule: &[u8], book: &[u8], lent: &mut Lent) -> u64 {
+    second::report(schedule, book, lent.buffer()).packed()
+}

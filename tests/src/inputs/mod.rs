@@ -1,0 +1,91 @@
+//! What library and second implementation are compared on: first every boundary, the largest books
+//! and every combination of a list (`edges`, `extremes`, `combinations`), then seeded books
+//! (`books`), some of them with faults or damage (`faults`). An input's number and the seed make it
+//! again.
+
+mod books;
+mod combinations;
+mod edges;
+mod extremes;
+mod faults;
+
+pub use books::{lifelike, Parents, Shape};
+pub use edges::sample;
+pub use extremes::largest_report_book;
+
+use crate::random::Random;
+use crate::raw::{RawBook, RawSchedule};
+use crate::weightrose::LARGEST_REPORT;
+
+#[derive(Clone, Debug)]
+pub struct Input {
+    pub name: &'static str,
+    pub schedule: Vec<u8>,
+    pub book: Vec<u8>,
+    pub room: Room,
+}
+
+/// How long the lent buffer is.
+#[derive(Clone, Copy, Debug)]
+pub enum Room {
+    Bytes(usize),
+    /// The report's length, and so many more.
+    Beside(i64),
+}
+
+impl Input {
+    pub fn new(name: &'static str, schedule: &RawSchedule, book: &RawBook) -> Input {
+        Input { name, schedule: schedule.bytes(), book: book.bytes(), room: Room::Beside(0) }
+    }
+}
+
+/// All inputs under one seed: the fixed ones, then seeded ones without end.
+pub struct Inputs {
+    seed: u64,
+    fixed: Vec<Input>,
+}
+
+impl Inputs {
+    pub fn new(seed: u64) -> Inputs {
+        let mut fixed = edges::all();
+        fixed.extend(extremes::all());
+        fixed.extend(combinations::all());
+        Inputs { seed, fixed }
+    }
+
+    /// How many inputs do not hang on the seed.
+    pub fn fixed(&self) -> usize {
+        self.fixed.len()
+    }
+
+    pub fn get(&self, number: usize) -> Input {
+        match self.fixed.get(number) {
+            Some(input) => input.clone(),
+            None => seeded(&mut Random::new(self.seed, number as u64)),
+        }
+    }
+}
+
+fn seeded(random: &mut Random) -> Input {
+    let (schedule, book) = books::random(random);
+    let mut input = match random.below(100) {
+        0..=59 => Input::new("valid", &schedule, &book),
+        60..=79 => faults::spoiled(random, schedule, book),
+        80..=94 => faults::damaged_book(random, &schedule, &book),
+        _ => faults::damaged_schedule(random, &schedule, &book),
+    };
+    input.room = random_room(random);
+    input
+}
+
+fn random_room(random: &mut Random) -> Room {
+    match random.below(100) {
+        0..=39 => Room::Beside(0),
+        40..=54 => Room::Beside(-1),
+        55..=64 => Room::Beside(1),
+        65..=79 => Room::Beside(random.below(161) as i64 - 80),
+        80..=89 => Room::Bytes(random.index(200)),
+        90..=97 => Room::Beside(random.below(4_000) as i64),
+        _ => Room::Bytes(LARGEST_REPORT + random.index(2)),
+    }
+}

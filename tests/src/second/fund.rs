@@ -1,0 +1,163 @@
+//! Records to figures: values, exposures, tiers, limits, and refusals 14 and 15.
+
+use super::fraction::Fraction;
+use super::records::*;
+use super::rules::Rules;
+use crate::weightrose::Refusal;
+use std::collections::BTreeMap;
+
+/// VAF (P16) and VAF′ (P20).
+pub struct Values {
+    pub vaf: i128,
+    pub vaf_prime: i128,
+}
+
+/// "VAF = total − all netted. VAF′ = total − reinsurance values + the sum of (stressed − netted,
+/// never below 0) − excluded."
+pub fn values<R: Rules>(rules: &R, book: &Book) -> Result<Values, Refusal> {
+    let reinsurance: Vec<&Asset> =
+        book.assets.iter().filter(|asset| asset.is_reinsurance()).collect();
+    let held: i128 = reinsurance.iter().map(|asset| asset.value).sum();
+    let netted: i128 = reinsurance.iter().map(|asset| asset.offsets).sum();
+    let stressed: i128 = reinsurance
+        .iter()
+        .map(|asset| rules.stressed_less_netted(asset, rules.stressed(asset)))
+        .sum();
+    if !rules.reinsurance_values_accepted(held, book.total) {
+        return Err(Refusal::ReinsuranceValues);
+    }
+    let vaf_prime = book.total - held + stressed - book.excluded;
+    if !rules.vaf_prime_accepted(vaf_prime) {
+        return Err(Refusal::StressedAssets);
+    }
+    Ok(Values { vaf: book.total - netted, vaf_prime })
+}
+
+/// An asset's net.
+pub fn net<R: Rules>(rules: &R, asset: &Asset) -> i128 {
+    let value_or_stressed =
+        if asset.is_reinsurance() { rules.stressed(asset) } else { asset.value };
+    rules.net(asset, value_or_stressed)
+}
+
+/// The covered parts in order, then the remainder: "Parts and remainder add up to net."
+pub fn exposures<R: Rules>(rules: &R, book: &Book, asset: &Asset) -> Vec<Exposure> {
+    let mut remainder = net(rules, asset);
+    let mut still =
+        rules.may_be_covered(asset, &book.counterparties[&asset.counterparty], remainder);
+    let mut exposures = Vec::new();
+    for mitigant in &asset.mitigants {
+        let counterparty = &book.counterparties[&mitigant.counterparty];
+        if recognised(rules, mitigant, counterparty, asset.is_reinsurance()) {
+            let amount = rules.covers(mitigant.value, still);
+            still -= amount;
+            remainder -= amount;
+            exposures.push(covered_part(rules, mitigant, counterparty, amount));
+        }
+    }
+    exposures.push(Exposure {
+        counterparty: asset.counterparty,
+        kind: asset.kind,
+        entry: asset.entry,
+        months: asset.months,
+        amount: remainder,
+    });
+    exposures
+}
+
+fn covered_part<R: Rules>(
+    rules: &R,
+    mitigant: &Mitigant,
+    counterparty: &Counterparty,
+    amount: i128,
+) -> Exposure {
+    Exposure {
+        counterparty: mitigant.counterparty,
+        kind: rules.covered_kind(mitigant.form, counterparty),
+        entry: None,
+        months: 0,
+        amount,
+    }
+}
+
+fn recognised<R: Rules>(
+    rules: &R,
+    mitigant: &Mitigant,
+    counterparty: &Counterparty,
+    reinsurance: bool,
+) -> bool {
+    match mitigant.form {
+        Form::Cash | Form::GovernmentSecurity | Form::Debt => {
+            rules.collateral_recognised(mitigant, counterparty, reinsurance)
+        }
+        Form::Guarantee => rules.guarantee_recognised(mitigant, counterparty, reinsurance),
+        Form::LetterOfCredit => {
+            let as_guarantee = rules.guarantee_recognised(mitigant, counterparty, true);
+            rules.letter_recognised(as_guarantee, reinsurance)
+        }
+    }
+}
+
+/// An exposure's tier; none where it has no limit.
+pub fn tier<R: Rules>(rules: &R, exposure: &Exposure, counterparty: &Counterparty) -> Option<Tier> {
+    if rules.unlimited(exposure.kind, counterparty) {
+        return None;
+    }
+    Some(match (exposure.kind, exposure.entry) {
+        (Kind::Reinsurance, _) if counterparty.graded() => {
+            rules.graded_reinsurance_tier(counterparty)
+        }
+        (Kind::Reinsurance, None) => Tier::IReinsurance,
+        (Kind::Reinsurance, Some(entry)) => {
+            downgraded_tier(entry, rules.kept_after(exposure.months))
+        }
+        (kind, _) => rules.tier(kind, counterparty),
+    })
+}
+
+fn downgraded_tier(entry: Entry, kept: Kept) -> Tier {
+    match (entry, kept) {
+        (Entry::E, Kept::Full) => Tier::E,
+        (Entry::E, Kept::FirstPercent) => Tier::EFirst,
+        (Entry::E, Kept::SecondPercent) => Tier::ESecond,
+        (Entry::G, Kept::Full) => Tier::G,
+        (Entry::G, Kept::FirstPercent) => Tier::GFirst,
+        (Entry::G, Kept::SecondPercent) => Tier::GSecond,
+        (_, Kept::Nothing) => Tier::IReinsurance,
+    }
+}
+
+/// The fund's limit in each tier, with `w` the W of row d.
+pub fn limits<R: Rules>(
+    rules: &R,
+    schedule: &Schedule,
+    base: i128,
+    values: &Values,
+    w: i128,
+) -> BTreeMap<Tier, i128> {
+    let limit = |tier: Tier| {
+        let vaf = if rules.uses_vaf_prime(tier) { values.vaf_prime } else { values.vaf };
+        let w = if tier == Tier::D { w } else { 0 };
+        let percent = rules.percent(tier, schedule);
+        (tier, row_limit(rules, &schedule.rows[&tier.row()], vaf, base, w, percent))
+    };
+    Tier::ALL.into_iter().map(limit).collect()
+}
+
+/// "row z's limit (on VAF′, no percent) the A3 limit".
+pub fn a3_limit<R: Rules>(rules: &R, schedule: &Schedule, base: i128, values: &Values) -> i128 {
+    let vaf = rules.a3_vaf(values.vaf, values.vaf_prime);
+    row_limit(rules, &schedule.rows[&RowName::Z], vaf, base, 0, 100)
+}
+
+fn row_limit<R: Rules>(
+    rules: &R,
+    row: &Row,
+    vaf: i128,
+    base: i128,
+    w: i128,
+    percent: i128,
+) -> i128 {
+    let [first, second]: [Fraction; 2] = rules.vaf_products(row, vaf, w);
+    rules.limit([first, second, rules.base_product(row, base)], row.fixed, percent)
+}

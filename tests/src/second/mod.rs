@@ -1,0 +1,76 @@
+//! A second implementation of document 01, written from the document and from nothing else.
+//!
+//! It reads bytes into records (`read`), takes values, exposures, tiers and limits from them
+//! (`fund`), sums them by group and cuts what passes a limit (`cascade`), and writes the report
+//! (`write`). Amounts are `i128` and limits exact fractions (`fraction`), so that no bound on them
+//! has to be known. Each sentence that could be got wrong by itself is a method of `rules`; `slip`
+//! has the wrong variants that a comparison must catch.
+
+mod cascade;
+mod fraction;
+mod fund;
+mod read;
+mod records;
+mod rules;
+mod slip;
+mod write;
+
+pub use rules::{Document01, Rules};
+pub use slip::Slip;
+
+use crate::weightrose::{Answer, Refusal};
+use records::Line;
+use write::Figures;
+
+/// The answer to a schedule and a book, with the report at the front of the buffer.
+pub fn report(schedule: &[u8], book: &[u8], buffer: &mut [u8]) -> Answer {
+    report_by(&Document01, schedule, book, buffer)
+}
+
+/// The same by other rules.
+pub fn report_by<R: Rules>(rules: &R, schedule: &[u8], book: &[u8], buffer: &mut [u8]) -> Answer {
+    match bytes_by(rules, schedule, book) {
+        Err(refusal) => Answer::Refused(refusal),
+        Ok(bytes) if !rules.buffer_accepted(buffer.len(), bytes.len()) => {
+            Answer::Refused(Refusal::BufferShort)
+        }
+        Ok(bytes) => {
+            buffer[..bytes.len()].copy_from_slice(&bytes);
+            Answer::Report(bytes.len())
+        }
+    }
+}
+
+/// The report's length, whatever the buffer; none where schedule or book is refused.
+pub fn length(schedule: &[u8], book: &[u8]) -> Option<usize> {
+    bytes_by(&Document01, schedule, book).ok().map(|bytes| bytes.len())
+}
+
+fn bytes_by<R: Rules>(rules: &R, schedule: &[u8], book: &[u8]) -> Result<Vec<u8>, Refusal> {
+    let schedule = read::schedule(schedule)?;
+    let book = read::book(rules, book)?;
+    let values = fund::values(rules, &book)?;
+    let sums = cascade::sums(rules, &book);
+    let limits = fund::limits(rules, &schedule, book.base, &values, sums.w);
+    let groups: Vec<Vec<Line>> = sums
+        .groups
+        .iter()
+        .map(|(&top, shares)| cascade::lines(rules, top, shares, &limits))
+        .collect();
+
+    let lines = || groups.iter().flatten();
+    let group_excess = lines().map(|line| line.excess).sum();
+    let a3_sum = lines().map(|line| rules.a3_part(line)).sum();
+    let a3_limit = fund::a3_limit(rules, &schedule, book.base, &values);
+    let figures = Figures {
+        vaf: values.vaf,
+        vaf_prime: values.vaf_prime,
+        all_net: rules.all_net(sums.linked, sums.net_of_others),
+        unlimited: rules.all_unlimited(sums.linked, sums.without_limit),
+        group_excess,
+        a3_sum,
+        a3_limit,
+        charge: rules.charge(group_excess, a3_sum, a3_limit),
+    };
+    Ok(write::report(rules, &figures, &groups))
+}

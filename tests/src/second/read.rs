@@ -1,0 +1,329 @@
+//! Bytes to records: the layout of schedule and book, and refusals 1 to 13.
+
+use super::records::*;
+use super::rules::Rules;
+use crate::weightrose::Refusal;
+use std::collections::BTreeMap;
+
+const ROWS: [RowName; 8] = [
+    RowName::C,
+    RowName::D,
+    RowName::E,
+    RowName::F,
+    RowName::G,
+    RowName::H,
+    RowName::I,
+    RowName::Z,
+];
+const MOST_RATE: i128 = 1_500;
+const MOST_PERCENT: i128 = 100;
+const MOST_COUNTERPARTIES: usize = 500;
+const MOST_ASSETS: usize = 900;
+const MOST_MITIGANTS: usize = 1_500;
+
+/// Bytes still to be read, from the front. Stored numbers are little-endian.
+struct Bytes<'a>(&'a [u8]);
+
+impl<'a> Bytes<'a> {
+    fn take(&mut self, count: usize) -> &'a [u8] {
+        let (front, rest) = self.0.split_at(count);
+        self.0 = rest;
+        front
+    }
+
+    fn array<const N: usize>(&mut self) -> [u8; N] {
+        self.take(N).try_into().unwrap()
+    }
+
+    fn u8(&mut self) -> u8 {
+        self.take(1)[0]
+    }
+
+    fn u16(&mut self) -> u16 {
+        u16::from_le_bytes(self.array())
+    }
+
+    fn u64(&mut self) -> i128 {
+        i128::from(u64::from_le_bytes(self.array()))
+    }
+
+    fn i64(&mut self) -> i128 {
+        i128::from(i64::from_le_bytes(self.array()))
+    }
+
+    /// An amount; none where it is over M.
+    fn amount(&mut self) -> Option<i128> {
+        Some(self.u64()).filter(|&amount| amount <= MOST)
+    }
+
+    /// The first N flags of a byte; none where another bit is set.
+    fn flags<const N: usize>(&mut self) -> Option<[bool; N]> {
+        let byte = self.u8();
+        let flags = std::array::from_fn(|bit| byte >> bit & 1 == 1);
+        Some(flags).filter(|_| byte >> N == 0)
+    }
+}
+
+fn accept(accepted: bool, refusal: Refusal) -> Result<(), Refusal> {
+    if accepted {
+        Ok(())
+    } else {
+        Err(refusal)
+    }
+}
+
+/// "Schedule, 122 bytes", refusals 1 to 4.
+pub fn schedule(bytes: &[u8]) -> Result<Schedule, Refusal> {
+    accept(bytes.len() == 122, Refusal::ScheduleLength)?;
+    let mut bytes = Bytes(bytes);
+    accept(bytes.take(4) == b"ACL\0", Refusal::ScheduleMark)?;
+    accept(bytes.u16() == 1, Refusal::ScheduleVersion)?;
+    let schedule = Schedule {
+        first_percent: i128::from(bytes.u16()),
+        second_percent: i128::from(bytes.u16()),
+        rows: ROWS.into_iter().map(|name| (name, row(&mut bytes))).collect(),
+    };
+    accept(schedule_rates_accepted(&schedule), Refusal::ScheduleRates)?;
+    Ok(schedule)
+}
+
+fn row(bytes: &mut Bytes) -> Row {
+    Row {
+        vaf_rate: i128::from(bytes.u16()),
+        second_vaf_rate: i128::from(bytes.u16()),
+        base_rate: i128::from(bytes.u16()),
+        fixed: bytes.u64(),
+    }
+}
+
+/// "a rate over 1,500, percent over 100 or fixed amount over M" (4).
+fn schedule_rates_accepted(schedule: &Schedule) -> bool {
+    let percents = [schedule.first_percent, schedule.second_percent];
+    percents.into_iter().all(|percent| percent <= MOST_PERCENT)
+        && schedule.rows.values().all(|row| {
+            let rates = [row.vaf_rate, row.second_vaf_rate, row.base_rate];
+            rates.into_iter().all(|rate| rate <= MOST_RATE) && row.fixed <= MOST
+        })
+}
+
+struct Header {
+    counterparties: usize,
+    assets: usize,
+    mitigants: usize,
+    total: i128,
+    base: i128,
+    excluded: i128,
+}
+
+/// The book, refusals 5 to 13.
+pub fn book<R: Rules>(rules: &R, bytes: &[u8]) -> Result<Book, Refusal> {
+    let header = header(bytes)?;
+    let most_place = header.counterparties as Place;
+    let mut bytes = Bytes(&bytes[40..]);
+
+    let counterparties: Result<BTreeMap<_, _>, _> =
+        records(bytes.take(4 * header.counterparties), 4, |bytes, place| {
+            Some((place, counterparty(bytes, place)?))
+        });
+    let assets: Result<Vec<_>, _> =
+        records(bytes.take(48 * header.assets), 48, |bytes, _| asset(rules, bytes, most_place));
+    let mitigants: Result<Vec<_>, _> =
+        records(bytes.take(12 * header.mitigants), 12, |bytes, _| mitigant(bytes, most_place));
+
+    let bad_records = [
+        counterparties.as_ref().err().map(|&place| Refusal::Counterparty(place)),
+        assets.as_ref().err().map(|&place| Refusal::Asset(place)),
+        mitigants.as_ref().err().map(|&place| Refusal::Mitigant(place)),
+    ];
+    if let Some(refusal) = rules.first_refusal(bad_records) {
+        return Err(refusal);
+    }
+    Ok(Book {
+        total: header.total,
+        base: header.base,
+        excluded: header.excluded,
+        counterparties: counterparties.unwrap(),
+        assets: with_mitigants(rules, assets.unwrap(), mitigants.unwrap())?,
+    })
+}
+
+/// The header's 40 bytes, refusals 5 to 9.
+fn header(book: &[u8]) -> Result<Header, Refusal> {
+    accept(book.len() >= 40, Refusal::BookLength)?;
+    let mut bytes = Bytes(book);
+    let mark = bytes.take(4);
+    let version = bytes.u16();
+    let [counterparties, assets, mitigants] = std::array::from_fn(|_| usize::from(bytes.u16()));
+    let zeros = bytes.take(4);
+    let header = Header {
+        counterparties,
+        assets,
+        mitigants,
+        total: bytes.u64(),
+        base: bytes.i64(),
+        excluded: bytes.u64(),
+    };
+    accept(mark == b"ACB\0" && zeros == [0; 4], Refusal::BookMark)?;
+    accept(version == 1, Refusal::BookVersion)?;
+    accept(counts_accepted(&header, book.len()), Refusal::BookCounts)?;
+    accept(amounts_accepted(&header), Refusal::BookAmounts)?;
+    Ok(header)
+}
+
+/// "a count over its most, or another length" (8).
+fn counts_accepted(header: &Header, length: usize) -> bool {
+    header.counterparties <= MOST_COUNTERPARTIES
+        && header.assets <= MOST_ASSETS
+        && header.mitigants <= MOST_MITIGANTS
+        && length == 40 + 4 * header.counterparties + 48 * header.assets + 12 * header.mitigants
+}
+
+/// "total or excluded over M, base outside −M to M" (9).
+fn amounts_accepted(header: &Header) -> bool {
+    header.total <= MOST && header.excluded <= MOST && (-MOST..=MOST).contains(&header.base)
+}
+
+/// Records of one size, or the place of the first bad one.
+fn records<T, All: FromIterator<T>>(
+    bytes: &[u8],
+    size: usize,
+    read: impl Fn(Bytes, Place) -> Option<T>,
+) -> Result<All, Place> {
+    let places = 1..;
+    bytes
+        .chunks(size)
+        .zip(places)
+        .map(|(record, place)| read(Bytes(record), place).ok_or(place))
+        .collect()
+}
+
+/// "counterparty field, unknown bit" (10): none.
+fn counterparty(mut bytes: Bytes, place: Place) -> Option<Counterparty> {
+    let parent = bytes.u16();
+    let grade_and_kind = bytes.u8();
+    let [related, approved_affiliate, second_limb] = bytes.flags()?;
+    let kind = match grade_and_kind / 16 {
+        0 => CounterpartyKind::Other,
+        1 => CounterpartyKind::Bank,
+        2 => CounterpartyKind::HomeGovernment,
+        3 => CounterpartyKind::ProvincialGovernment,
+        4 => CounterpartyKind::RegisteredLifeCompany,
+        _ => return None,
+    };
+    let grade = grade_and_kind % 16;
+    let parent = match parent {
+        0 => None,
+        lower if lower < place => Some(lower),
+        _ => return None,
+    };
+    let counterparty =
+        Counterparty { parent, grade, kind, related, approved_affiliate, second_limb };
+    Some(counterparty).filter(|_| grade <= 7)
+}
+
+/// An asset, still without its mitigants, and how many it has. "asset field, unknown bit, amount
+/// over M" (11): none.
+fn asset<R: Rules>(rules: &R, mut bytes: Bytes, most_place: Place) -> Option<(Asset, u16)> {
+    let kind = asset_kind(bytes.u8())?;
+    let [linked, rises_under_stress] = bytes.flags()?;
+    let entry = match bytes.u8() {
+        0 => None,
+        1 => Some(Entry::E),
+        2 => Some(Entry::G),
+        _ => return None,
+    };
+    let months = bytes.u8();
+    let counterparty = known_place(bytes.u16(), most_place)?;
+    let count = bytes.u16();
+    let asset = Asset {
+        kind,
+        linked,
+        rises_under_stress,
+        entry,
+        months,
+        counterparty,
+        value: bytes.amount()?,
+        offsets: bytes.amount()?,
+        deductions: bytes.amount()?,
+        insurance_stress: bytes.amount()?,
+        combination_stress: bytes.amount()?,
+        mitigants: Vec::new(),
+    };
+    let accepted = reinsurance_fields_accepted(&asset)
+        && rules.offsets_accepted(asset.is_reinsurance(), asset.offsets, asset.value);
+    Some((asset, count)).filter(|_| accepted)
+}
+
+/// "Only reinsurance (kind 9) may have bit 1, entry, months or stress amounts nonzero; months need
+/// a nonzero entry".
+fn reinsurance_fields_accepted(asset: &Asset) -> bool {
+    let plain = !asset.rises_under_stress
+        && asset.entry.is_none()
+        && asset.months == 0
+        && asset.insurance_stress == 0
+        && asset.combination_stress == 0;
+    let months_have_entry = asset.months == 0 || asset.entry.is_some();
+    (asset.is_reinsurance() || plain) && months_have_entry
+}
+
+fn asset_kind(number: u8) -> Option<Kind> {
+    Some(match number {
+        1 => Kind::GovernmentGuaranteed,
+        2 => Kind::LifePolicy,
+        3 => Kind::BankPaper,
+        4 => Kind::Deposit,
+        5 => Kind::ProvinceGuaranteed,
+        6 => Kind::Traded,
+        7 => Kind::Loan,
+        8 => Kind::Property,
+        9 => Kind::Reinsurance,
+        10 => Kind::PremiumsOwed,
+        11 => Kind::AnyOther,
+        _ => return None,
+    })
+}
+
+/// "mitigant likewise" (12): none.
+fn mitigant(mut bytes: Bytes, most_place: Place) -> Option<Mitigant> {
+    let form = match bytes.u8() {
+        1 => Form::Cash,
+        2 => Form::GovernmentSecurity,
+        3 => Form::Debt,
+        4 => Form::Guarantee,
+        5 => Form::LetterOfCredit,
+        _ => return None,
+    };
+    let [secured_and_held, p35_or_p36_terms, p40_terms, p42_terms, same_currency] =
+        bytes.flags()?;
+    Some(Mitigant {
+        form,
+        secured_and_held,
+        p35_or_p36_terms,
+        p40_terms,
+        p42_terms,
+        same_currency,
+        counterparty: known_place(bytes.u16(), most_place)?,
+        value: bytes.amount()?,
+    })
+}
+
+/// "u16 counterparty (1 to C, in mitigants too)".
+fn known_place(place: Place, most_place: Place) -> Option<Place> {
+    Some(place).filter(|place| (1..=most_place).contains(place))
+}
+
+/// Hands the mitigants out to the assets in order (13).
+fn with_mitigants<R: Rules>(
+    rules: &R,
+    assets: Vec<(Asset, u16)>,
+    mitigants: Vec<Mitigant>,
+) -> Result<Vec<Asset>, Refusal> {
+    let counts: Vec<u16> = assets.iter().map(|&(_, count)| count).collect();
+    accept(rules.counts_accepted(&counts, mitigants.len()), Refusal::MitigantCounts)?;
+    let mut mitigants = mitigants.into_iter();
+    let hand_out = |(asset, count): (Asset, u16)| {
+        let own = mitigants.by_ref().take(rules.mitigants_of(&asset, count)).collect();
+        Asset { mitigants: own, ..asset }
+    };
+    Ok(assets.into_iter().map(hand_out).collect())
+}

@@ -1,0 +1,228 @@
+//! What a schedule and a book say, once read: document 01's records by name.
+
+use std::collections::BTreeMap;
+
+/// Document 01's M: the most that an amount read may be, in cents.
+pub const MOST: i128 = 10_000_000_000_000;
+
+/// A record's place, from 1.
+pub type Place = u16;
+
+/// The schedule's rows, in their order.
+#[derive(Clone, Copy, Debug, PartialEq, Eq, PartialOrd, Ord)]
+pub enum RowName {
+    C,
+    D,
+    E,
+    F,
+    G,
+    H,
+    I,
+    Z,
+}
+
+#[derive(Clone, Copy, Debug)]
+pub struct Row {
+    pub vaf_rate: i128,
+    pub second_vaf_rate: i128,
+    pub base_rate: i128,
+    pub fixed: i128,
+}
+
+#[derive(Debug)]
+pub struct Schedule {
+    pub first_percent: i128,
+    pub second_percent: i128,
+    pub rows: BTreeMap<RowName, Row>,
+}
+
+#[derive(Debug)]
+pub struct Book {
+    pub total: i128,
+    pub base: i128,
+    pub excluded: i128,
+    pub counterparties: BTreeMap<Place, Counterparty>,
+    pub assets: Vec<Asset>,
+}
+
+#[derive(Clone, Copy, Debug, PartialEq, Eq)]
+pub enum CounterpartyKind {
+    Other,
+    Bank,
+    HomeGovernment,
+    ProvincialGovernment,
+    RegisteredLifeCompany,
+}
+
+#[derive(Clone, Debug)]
+pub struct Counterparty {
+    pub parent: Option<Place>,
+    pub grade: u8,
+    pub kind: CounterpartyKind,
+    pub related: bool,
+    pub approved_affiliate: bool,
+    /// Approved under A1(e), second limb.
+    pub second_limb: bool,
+}
+
+impl Counterparty {
+    /// "Graded" means 1 to 3.
+    pub fn graded(&self) -> bool {
+        (1..=3).contains(&self.grade)
+    }
+
+    pub fn is(&self, kind: CounterpartyKind) -> bool {
+        self.kind == kind
+    }
+}
+
+/// The kinds of assets and exposures, 1 to 11.
+#[derive(Clone, Copy, Debug, PartialEq, Eq)]
+pub enum Kind {
+    GovernmentGuaranteed,
+    LifePolicy,
+    /// Bank bill, guarantee, letter.
+    BankPaper,
+    Deposit,
+    ProvinceGuaranteed,
+    Traded,
+    Loan,
+    Property,
+    Reinsurance,
+    PremiumsOwed,
+    AnyOther,
+}
+
+/// The entry class of reinsurance: the row it was in when it was entered into (A2).
+#[derive(Clone, Copy, Debug, PartialEq, Eq)]
+pub enum Entry {
+    E,
+    G,
+}
+
+#[derive(Clone, Debug)]
+pub struct Asset {
+    pub kind: Kind,
+    pub linked: bool,
+    pub rises_under_stress: bool,
+    pub entry: Option<Entry>,
+    pub months: u8,
+    pub counterparty: Place,
+    pub value: i128,
+    pub offsets: i128,
+    pub deductions: i128,
+    pub insurance_stress: i128,
+    pub combination_stress: i128,
+    pub mitigants: Vec<Mitigant>,
+}
+
+impl Asset {
+    pub fn is_reinsurance(&self) -> bool {
+        self.kind == Kind::Reinsurance
+    }
+}
+
+#[derive(Clone, Copy, Debug, PartialEq, Eq)]
+pub enum Form {
+    Cash,
+    GovernmentSecurity,
+    Debt,
+    Guarantee,
+    LetterOfCredit,
+}
+
+#[derive(Clone, Debug)]
+pub struct Mitigant {
+    pub form: Form,
+    pub secured_and_held: bool,
+    pub p35_or_p36_terms: bool,
+    pub p40_terms: bool,
+    pub p42_terms: bool,
+    pub same_currency: bool,
+    pub counterparty: Place,
+    pub value: i128,
+}
+
+/// The tiers in the order of their numbers, 0 to 12.
+#[derive(Clone, Copy, Debug, PartialEq, Eq, PartialOrd, Ord)]
+pub enum Tier {
+    I,
+    IReinsurance,
+    H,
+    HReinsurance,
+    GSecond,
+    GFirst,
+    G,
+    ESecond,
+    EFirst,
+    E,
+    F,
+    C,
+    D,
+}
+
+impl Tier {
+    pub const ALL: [Tier; 13] = [
+        Tier::I,
+        Tier::IReinsurance,
+        Tier::H,
+        Tier::HReinsurance,
+        Tier::GSecond,
+        Tier::GFirst,
+        Tier::G,
+        Tier::ESecond,
+        Tier::EFirst,
+        Tier::E,
+        Tier::F,
+        Tier::C,
+        Tier::D,
+    ];
+
+    pub fn number(self) -> u8 {
+        self as u8
+    }
+
+    pub fn row(self) -> RowName {
+        match self {
+            Tier::I | Tier::IReinsurance => RowName::I,
+            Tier::H | Tier::HReinsurance => RowName::H,
+            Tier::GSecond | Tier::GFirst | Tier::G => RowName::G,
+            Tier::ESecond | Tier::EFirst | Tier::E => RowName::E,
+            Tier::F => RowName::F,
+            Tier::C => RowName::C,
+            Tier::D => RowName::D,
+        }
+    }
+}
+
+/// What is left of an ungraded reinsurer's limit after its downgrade (A2).
+#[derive(Clone, Copy, Debug, PartialEq, Eq)]
+pub enum Kept {
+    Full,
+    FirstPercent,
+    SecondPercent,
+    Nothing,
+}
+
+/// Part of an asset, as an exposure to one counterparty.
+#[derive(Clone, Debug)]
+pub struct Exposure {
+    pub counterparty: Place,
+    pub kind: Kind,
+    pub entry: Option<Entry>,
+    pub months: u8,
+    pub amount: i128,
+}
+
+/// A tier of a group: a line of the report, with what counts for A3.
+#[derive(Clone, Debug)]
+pub struct Line {
+    pub top: Place,
+    pub tier: Tier,
+    pub exposure: i128,
+    pub limit: i128,
+    pub left: i128,
+    pub excess: i128,
+    /// The part of the exposure that A3 counts, before its cap.
+    pub a3_together: i128,
+}

@@ -1,0 +1,300 @@
+//! Document 01's sentences, one method each: every one that a wrong program could get wrong by
+//! itself. No method calls another, so that a slip can replace one and leave the rest.
+
+use super::fraction::Fraction;
+use super::records::*;
+use crate::weightrose::Refusal;
+use std::collections::BTreeMap;
+
+/// Document 01 as it stands.
+pub struct Document01;
+
+impl Rules for Document01 {}
+
+pub trait Rules {
+    // What the desk turns back.
+
+    /// "Checked by rising number": the first bad counterparty, asset and mitigant, if any.
+    fn first_refusal(&self, bad_records: [Option<Refusal>; 3]) -> Option<Refusal> {
+        bad_records.into_iter().flatten().next()
+    }
+
+    /// "offsets are netted liabilities, at most its value" (11): reinsurance only.
+    fn offsets_accepted(&self, reinsurance: bool, offsets: i128, value: i128) -> bool {
+        !reinsurance || offsets <= value
+    }
+
+    /// "counts don't add to K" (13).
+    fn counts_accepted(&self, counts: &[u16], mitigants: usize) -> bool {
+        counts.iter().copied().map(usize::from).sum::<usize>() == mitigants
+    }
+
+    /// "Mitigant, 12 bytes, in asset order": how many of them are an asset's.
+    fn mitigants_of(&self, _asset: &Asset, count: u16) -> usize {
+        usize::from(count)
+    }
+
+    /// "reinsurance values over total" (14).
+    fn reinsurance_values_accepted(&self, values: i128, total: i128) -> bool {
+        values <= total
+    }
+
+    /// "VAF′ below 0 or over M" (15).
+    fn vaf_prime_accepted(&self, vaf_prime: i128) -> bool {
+        (0..=MOST).contains(&vaf_prime)
+    }
+
+    /// "buffer shorter than report" (16).
+    fn buffer_accepted(&self, buffer: usize, report: usize) -> bool {
+        buffer >= report
+    }
+
+    // Values (P16 to P20, P26, P27).
+
+    /// "Stressed = combination amount, or the greater of the two if bit 1 is set."
+    fn stressed(&self, asset: &Asset) -> i128 {
+        if asset.rises_under_stress {
+            asset.combination_stress.max(asset.insurance_stress)
+        } else {
+            asset.combination_stress
+        }
+    }
+
+    /// "Net = value (reinsurance: stressed) − offsets − deductions, never below 0."
+    fn net(&self, asset: &Asset, value_or_stressed: i128) -> i128 {
+        (value_or_stressed - asset.offsets - asset.deductions).max(0)
+    }
+
+    /// "stressed − netted, never below 0": what a reinsurance asset adds to VAF′.
+    fn stressed_less_netted(&self, asset: &Asset, stressed: i128) -> i128 {
+        (stressed - asset.offsets).max(0)
+    }
+
+    // Mitigants (P31 to P43).
+
+    /// "That starts at net, or at net/2 rounded down for each reinsurance asset whose counterparty
+    /// is neither of kind 4 nor an approved affiliate."
+    fn may_be_covered(&self, asset: &Asset, counterparty: &Counterparty, net: i128) -> i128 {
+        let in_full = !asset.is_reinsurance()
+            || counterparty.is(CounterpartyKind::RegisteredLifeCompany)
+            || counterparty.approved_affiliate;
+        if in_full {
+            net
+        } else {
+            net / 2
+        }
+    }
+
+    /// "each covering the lesser of its value and what may still be covered".
+    fn covers(&self, value: i128, still: i128) -> i128 {
+        value.min(still)
+    }
+
+    /// "Collateral: bit 4, and bit 0 (reinsurance: bit 0 or 1); debt must be graded."
+    fn collateral_recognised(
+        &self,
+        item: &Mitigant,
+        issuer: &Counterparty,
+        reinsurance: bool,
+    ) -> bool {
+        let held = item.secured_and_held || (reinsurance && item.p35_or_p36_terms);
+        let eligible = item.form != Form::Debt || issuer.graded();
+        item.same_currency && held && eligible
+    }
+
+    /// "Guarantee: not related, graded, bit 2; for reinsurance a bank with bit 3 instead of bit 2."
+    fn guarantee_recognised(
+        &self,
+        item: &Mitigant,
+        guarantor: &Counterparty,
+        reinsurance: bool,
+    ) -> bool {
+        let terms = if reinsurance {
+            guarantor.is(CounterpartyKind::Bank) && item.p42_terms
+        } else {
+            item.p40_terms
+        };
+        !guarantor.related && guarantor.graded() && terms
+    }
+
+    /// "Letter of credit: reinsurance only, same as its guarantee."
+    fn letter_recognised(&self, guarantee_recognised: bool, reinsurance: bool) -> bool {
+        reinsurance && guarantee_recognised
+    }
+
+    /// "A covered part becomes an exposure to the mitigant's counterparty: ..", of this kind.
+    fn covered_kind(&self, form: Form, counterparty: &Counterparty) -> Kind {
+        match (form, counterparty.kind) {
+            (Form::Cash, _) => Kind::Deposit,
+            (Form::GovernmentSecurity, _) => Kind::GovernmentGuaranteed,
+            (Form::Debt, _) => Kind::Loan,
+            (Form::Guarantee, CounterpartyKind::Bank) => Kind::BankPaper,
+            (Form::Guarantee, CounterpartyKind::HomeGovernment) => Kind::GovernmentGuaranteed,
+            (Form::Guarantee, CounterpartyKind::ProvincialGovernment) => Kind::ProvinceGuaranteed,
+            (Form::Guarantee, _) => Kind::Loan,
+            (Form::LetterOfCredit, _) => Kind::BankPaper,
+        }
+    }
+
+    // Tiers (A1, A2).
+
+    /// "Kind 1 with home government, and kind 2 with a related registered life company: no limit."
+    fn unlimited(&self, kind: Kind, counterparty: &Counterparty) -> bool {
+        match kind {
+            Kind::GovernmentGuaranteed => counterparty.is(CounterpartyKind::HomeGovernment),
+            Kind::LifePolicy => {
+                counterparty.is(CounterpartyKind::RegisteredLifeCompany) && counterparty.related
+            }
+            _ => false,
+        }
+    }
+
+    /// Every other exposure but reinsurance. "Kind 7 (loan), and any of the above that fails its
+    /// condition: h if graded, else i."
+    fn tier(&self, kind: Kind, counterparty: &Counterparty) -> Tier {
+        let graded = counterparty.graded();
+        match (kind, counterparty.kind) {
+            (Kind::BankPaper, CounterpartyKind::Bank) => Tier::C,
+            (Kind::ProvinceGuaranteed, CounterpartyKind::ProvincialGovernment) => Tier::C,
+            (Kind::Deposit, CounterpartyKind::Bank) => Tier::D,
+            (Kind::Traded | Kind::Property, _) => Tier::H,
+            (Kind::PremiumsOwed, CounterpartyKind::RegisteredLifeCompany) if graded => Tier::F,
+            (Kind::AnyOther, _) => Tier::I,
+            _ if graded => Tier::H,
+            _ => Tier::I,
+        }
+    }
+
+    /// "graded gives e if kind 4 and not related, or if bit 2 is set whatever the kind; else g if
+    /// bit 1 and not kind 4; else h."
+    fn graded_reinsurance_tier(&self, reinsurer: &Counterparty) -> Tier {
+        let registered = reinsurer.is(CounterpartyKind::RegisteredLifeCompany);
+        if (registered && !reinsurer.related) || reinsurer.second_limb {
+            Tier::E
+        } else if reinsurer.approved_affiliate && !registered {
+            Tier::G
+        } else {
+            Tier::HReinsurance
+        }
+    }
+
+    /// "Ungraded with an entry: full limit for months 0 to 2, first percent 3 to 11, second 12 to
+    /// 23; otherwise i."
+    fn kept_after(&self, months: u8) -> Kept {
+        match months {
+            0..=2 => Kept::Full,
+            3..=11 => Kept::FirstPercent,
+            12..=23 => Kept::SecondPercent,
+            _ => Kept::Nothing,
+        }
+    }
+
+    // Limits.
+
+    /// "times the percent kept": tiers 5 and 8 the first percent, 4 and 7 the second.
+    fn percent(&self, tier: Tier, schedule: &Schedule) -> i128 {
+        match tier {
+            Tier::GFirst | Tier::EFirst => schedule.first_percent,
+            Tier::GSecond | Tier::ESecond => schedule.second_percent,
+            _ => 100,
+        }
+    }
+
+    /// "Tiers 1 and 3 to 9 use VAF′."
+    fn uses_vaf_prime(&self, tier: Tier) -> bool {
+        matches!(tier.number(), 1 | 3..=9)
+    }
+
+    /// "W, the whole fund's tier c exposure of kind 3".
+    fn counts_in_w(&self, tier: Tier, kind: Kind) -> bool {
+        tier == Tier::C && kind == Kind::BankPaper
+    }
+
+    /// "rate × VAF, second rate × VAF"; "for d the first rate's product is lessened by W, .., not
+    /// below 0" (`w` is 0 for every other row).
+    fn vaf_products(&self, row: &Row, vaf: i128, w: i128) -> [Fraction; 2] {
+        let first = Fraction::per_mille(row.vaf_rate, vaf).less(w);
+        [first.max(Fraction::whole(0)), Fraction::per_mille(row.second_vaf_rate, vaf)]
+    }
+
+    /// "base rate × base (a negative base gives nothing)".
+    fn base_product(&self, row: &Row, base: i128) -> Fraction {
+        Fraction::per_mille(row.base_rate, base.max(0))
+    }
+
+    /// "the greatest of .. and fixed amount, times the percent kept, exact, rounded down once".
+    fn limit(&self, products: [Fraction; 3], fixed: i128, percent: i128) -> i128 {
+        let greatest = products.into_iter().fold(Fraction::whole(fixed), Fraction::max);
+        greatest.percent(percent).floor()
+    }
+
+    // Cascade (P23).
+
+    /// "A group is everyone with the same topmost parent."
+    fn topmost(&self, counterparties: &BTreeMap<Place, Counterparty>, place: Place) -> Place {
+        match counterparties[&place].parent {
+            None => place,
+            Some(parent) => self.topmost(counterparties, parent),
+        }
+    }
+
+    /// "tiers rank by limit in cents, then number".
+    fn rank(&self, tier: Tier, limit: i128) -> (i128, i128) {
+        (limit, i128::from(tier.number()))
+    }
+
+    /// "Each tier's left is limit − standing".
+    fn left(&self, limit: i128, standing: i128) -> i128 {
+        limit - standing
+    }
+
+    /// "its excess is what of its exposure passes left".
+    fn excess(&self, exposure: i128, left: i128) -> i128 {
+        (exposure - left).max(0)
+    }
+
+    // A3.
+
+    /// "in tiers 1 and 3 to 6, exposures to counterparties not of kind 4".
+    fn counts_in_a3(&self, tier: Tier, counterparty: &Counterparty) -> bool {
+        matches!(tier.number(), 1 | 3..=6)
+            && !counterparty.is(CounterpartyKind::RegisteredLifeCompany)
+    }
+
+    /// "count together, tier by tier, up to the tier's unreduced limit".
+    fn a3_part(&self, line: &Line) -> i128 {
+        line.a3_together.min(line.limit)
+    }
+
+    /// "row z's limit (on VAF′, no percent) the A3 limit": the VAF it is taken on.
+    fn a3_vaf(&self, _vaf: i128, vaf_prime: i128) -> i128 {
+        vaf_prime
+    }
+
+    /// "Charge = group excess + what, if anything, the A3 sum has above the A3 limit."
+    fn charge(&self, group_excess: i128, a3_sum: i128, a3_limit: i128) -> i128 {
+        group_excess + (a3_sum - a3_limit).max(0)
+    }
+
+    // Report.
+
+    /// "unlimited (linked nets and exposures without limit)".
+    fn all_unlimited(&self, linked: i128, without_limit: i128) -> i128 {
+        linked + without_limit
+    }
+
+    /// "all net (linked too)".
+    fn all_net(&self, linked: i128, others: i128) -> i128 {
+        linked + others
+    }
+
+    /// "one for each tier of each group (so exposure above 0 only)".
+    fn has_line(&self, exposure: i128) -> bool {
+        exposure > 0
+    }
+
+    /// "set of the group's tiers (bit n is tier n; its ones are the group's lines)".
+    fn tier_set(&self, tiers: &[Tier]) -> u16 {
+        tiers.iter().fold(0, |set, tier| set | 1 << tier.number())
+    }
+}

@@ -1,0 +1,164 @@
+//! The library's two exported functions behind safe ones.
+
+/// Bytes of a schedule.
+pub const SCHEDULE: usize = 122;
+/// Bytes of the largest book: 500 counterparties, 900 assets, 1,500 mitigants.
+pub const LARGEST_BOOK: usize = 40 + 4 * 500 + 48 * 900 + 12 * 1_500;
+/// Bytes of the report's header, and of each of its lines.
+pub const HEADER: usize = 72;
+pub const LINE: usize = 40;
+/// Bytes of the largest report: a line for each asset and each mitigant.
+pub const LARGEST_REPORT: usize = HEADER + LINE * 2_400;
+
+mod exported {
+    extern "C" {
+        pub fn weightrose_report(
+            schedule: *const u8,
+            schedule_len: usize,
+            book: *const u8,
+            book_len: usize,
+            report: *mut u8,
+            report_len: usize,
+        ) -> u64;
+        pub fn weightrose_published(schedule: *mut u8, schedule_len: usize) -> u64;
+    }
+}
+
+/// A report of so many bytes, or one refusal.
+#[derive(Clone, Copy, Debug, PartialEq, Eq)]
+pub enum Answer {
+    Report(usize),
+    Refused(Refusal),
+}
+
+/// Document 01's refusals by name, 1 to 16 in this order; 10 to 12 with the bad record's place.
+#[derive(Clone, Copy, Debug, PartialEq, Eq)]
+pub enum Refusal {
+    ScheduleLength,
+    ScheduleMark,
+    ScheduleVersion,
+    ScheduleRates,
+    BookLength,
+    BookMark,
+    BookVersion,
+    BookCounts,
+    BookAmounts,
+    Counterparty(u16),
+    Asset(u16),
+    Mitigant(u16),
+    MitigantCounts,
+    ReinsuranceValues,
+    StressedAssets,
+    BufferShort,
+}
+
+impl Refusal {
+    /// Document 01's number.
+    pub fn number(self) -> u32 {
+        match self {
+            Refusal::ScheduleLength => 1,
+            Refusal::ScheduleMark => 2,
+            Refusal::ScheduleVersion => 3,
+            Refusal::ScheduleRates => 4,
+            Refusal::BookLength => 5,
+            Refusal::BookMark => 6,
+            Refusal::BookVersion => 7,
+            Refusal::BookCounts => 8,
+            Refusal::BookAmounts => 9,
+            Refusal::Counterparty(_) => 10,
+            Refusal::Asset(_) => 11,
+            Refusal::Mitigant(_) => 12,
+            Refusal::MitigantCounts => 13,
+            Refusal::ReinsuranceValues => 14,
+            Refusal::StressedAssets => 15,
+            Refusal::BufferShort => 16,
+        }
+    }
+
+    /// "place is the record's for 10 to 12, else 0".
+    pub fn place(self) -> u16 {
+        match self {
+            Refusal::Counterparty(place) | Refusal::Asset(place) | Refusal::Mitigant(place) => {
+                place
+            }
+            _ => 0,
+        }
+    }
+}
+
+impl Answer {
+    /// The answer as the library packs it: the refusal's number above, length or place below.
+    pub fn packed(self) -> u64 {
+        match self {
+            Answer::Report(length) => length as u64,
+            Answer::Refused(refusal) => {
+                u64::from(refusal.number()) << 32 | u64::from(refusal.place())
+            }
+        }
+    }
+
+    /// The answer behind a packed number; none where no answer packs to it.
+    pub fn unpacked(packed: u64) -> Option<Answer> {
+        let (number, low) = (packed >> 32, packed as u32);
+        if number == 0 {
+            return Some(Answer::Report(low as usize));
+        }
+        let refusal = match number {
+            1 => Refusal::ScheduleLength,
+            2 => Refusal::ScheduleMark,
+            3 => Refusal::ScheduleVersion,
+            4 => Refusal::ScheduleRates,
+            5 => Refusal::BookLength,
+            6 => Refusal::BookMark,
+            7 => Refusal::BookVersion,
+            8 => Refusal::BookCounts,
+            9 => Refusal::BookAmounts,
+            10 => Refusal::Counterparty(low as u16),
+            11 => Refusal::Asset(low as u16),
+            12 => Refusal::Mitigant(low as u16),
+            13 => Refusal::MitigantCounts,
+            14 => Refusal::ReinsuranceValues,
+            15 => Refusal::StressedAssets,
+            16 => Refusal::BufferShort,
+            _ => return None,
+        };
+        Some(Answer::Refused(refusal)).filter(|answer| answer.packed() == packed)
+    }
+}
+
+/// The library's answer as it stands. After a report, the buffer starts with it.
+pub fn packed_report(schedule: &[u8], book: &[u8], buffer: &mut [u8]) -> u64 {
+    // SAFETY: each pointer is that of a slice and stands beside the slice's length, and the
+    // buffer, being lent as `&mut`, is apart from the other two.
+    unsafe {
+        exported::weightrose_report(
+            schedule.as_ptr(),
+            schedule.len(),
+            book.as_ptr(),
+            book.len(),
+            buffer.as_mut_ptr(),
+            buffer.len(),
+        )
+    }
+}
+
+/// Writes the report of the book under the schedule to the front of the buffer and answers its
+/// length, or refuses and leaves the buffer as it is.
+pub fn report(schedule: &[u8], book: &[u8], buffer: &mut [u8]) -> Answer {
+    let packed = packed_report(schedule, book, buffer);
+    Answer::unpacked(packed).unwrap_or_else(|| panic!("no answer packs to {packed:#018x}"))
+}
+
+/// The published schedule, for a slice that may be too short: 122, or 0 and nothing is written.
+pub fn published_into(schedule: &mut [u8]) -> u64 {
+    // SAFETY: the pointer and the length are those of one slice, lent as `&mut`.
+    unsafe { exported::weightrose_published(schedule.as_mut_ptr(), schedule.len()) }
+}
+
+/// The published schedule (A1 to A3).
+pub fn published() -> [u8; SCHEDULE] {
+    let mut schedule = [0; SCHEDULE];
+    let written = published_into(&mut schedule);
+    assert_eq!(written, SCHEDULE as u64);
+    schedule
+}

@@ -1,0 +1,69 @@
+# The library from the outside. Included from the repository's root, or used by
+# make -f tests/tests.mk TARGET there.
+#
+#     tests           all of the below but compare-long and bench
+#     tests-rust      document 01's cases and the slips, then the comparison with the second
+#                     implementation
+#     tests-c         the C ledger: as C99, as C++, under valgrind and the sanitizers
+#     tests-install   the C ledger against an installed library
+#     compare-long    the comparison on a million inputs (LONG_INPUTS, SEED)
+#     bench           times of the library and of the second implementation; with YARDSTICK_LIB=..,
+#                     a static library that has peer_report, of that one too
+#
+# WEIGHTROSE_LIB is the static library under test. All that is made goes to target/tests.
+
+TESTS_MAKEFILE := $(firstword $(MAKEFILE_LIST))
+WEIGHTROSE_LIB ?= target/staticlib/libweightrose.a
+TESTS_OUT := target/tests
+YARDSTICK_LIB ?=
+LONG_INPUTS ?= 1000000
+SEED ?= 20230701
+
+CARGO ?= cargo
+CARGO_FLAGS := --offline --manifest-path tests/Cargo.toml --target-dir $(TESTS_OUT)
+CARGO_ENV = WEIGHTROSE_LIB_DIR=$(dir $(abspath $(WEIGHTROSE_LIB)))
+
+C_WARNINGS := -Wall -Wextra -Wpedantic -Werror
+C_FLAGS := -O2 -g -Iinclude $(C_WARNINGS)
+SANITIZE := -fsanitize=address,undefined -fno-sanitize-recover=all
+LEDGER := tests/c/ledger.c
+LEDGER_NEEDS := $(LEDGER) include/weightrose.h $(WEIGHTROSE_LIB)
+
+.PHONY: tests tests-rust tests-c tests-install compare-long bench
+
+tests: tests-rust tests-c tests-install
+
+tests-rust: $(WEIGHTROSE_LIB)
+	$(CARGO_ENV) $(CARGO) test $(CARGO_FLAGS) --profile checked
+	$(CARGO_ENV) $(CARGO) run $(CARGO_FLAGS) --profile checked --bin compare -- --seed $(SEED)
+
+compare-long: $(WEIGHTROSE_LIB)
+	$(CARGO_ENV) $(CARGO) run $(CARGO_FLAGS) --profile checked --bin compare -- \
+	    --inputs $(LONG_INPUTS) --seed $(SEED)
+
+bench: $(WEIGHTROSE_LIB)
+	$(CARGO_ENV) YARDSTICK_LIB=$(abspath $(YARDSTICK_LIB)) \
+	    $(CARGO) run $(CARGO_FLAGS) --release --bin bench
+
+tests-c: $(TESTS_OUT)/ledger $(TESTS_OUT)/ledger-cxx $(TESTS_OUT)/ledger-sanitized
+	$(TESTS_OUT)/ledger
+	$(TESTS_OUT)/ledger-cxx >/dev/null
+	$(TESTS_OUT)/ledger-sanitized >/dev/null
+	valgrind --quiet --error-exitcode=1 --leak-check=full $(TESTS_OUT)/ledger >/dev/null
+
+$(TESTS_OUT)/ledger: $(LEDGER_NEEDS)
+	mkdir -p $(TESTS_OUT)
+	$(CC) -std=c99 $(C_FLAGS) $(LEDGER) $(WEIGHTROSE_LIB) -o $@
+
+$(TESTS_OUT)/ledger-cxx: $(LEDGER_NEEDS)
+	mkdir -p $(TESTS_OUT)
+	$(CXX) -std=c++11 $(C_FLAGS) -x c++ $(LEDGER) -x none $(WEIGHTROSE_LIB) -o $@
+
+$(TESTS_OUT)/ledger-sanitized: $(LEDGER_NEEDS)
+	mkdir -p $(TESTS_OUT)
+	$(CC) -std=c99 $(C_FLAGS) $(SANITIZE) $(LEDGER) $(WEIGHTROSE_LIB) -o $@
+
+tests-install: $(WEIGHTROSE_LIB)
+	MAKE='$(MAKE)' tests/install.sh $(TESTS_MAKEFILE) $(abspath $(WEIGHTROSE_LIB))
+
+include tests/install.mk

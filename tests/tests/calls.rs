@@ -1,0 +1,40 @@
+//! What the C header promises of a call beside its answer: any number of threads at once, and so
+//! much stack at most.
+
+use std::thread;
+use weightrose_tests::compare::{compare, library, second};
+use weightrose_tests::inputs::{largest_report_book, lifelike, Inputs, Parents, Shape};
+use weightrose_tests::random::Random;
+use weightrose_tests::weightrose::{packed_report, published, LARGEST_REPORT};
+
+/// The stack that `weightrose.h` names, and some for the thread's own frames.
+const STACK: usize = 256 * 1024;
+const OWN_STACK: usize = 32 * 1024;
+
+#[test]
+fn threads_at_once() {
+    let inputs = Inputs::new(23);
+    let seeded =
+        |share: usize| inputs.fixed() + share * 2_000..inputs.fixed() + (share + 1) * 2_000;
+    let agrees = |number: usize| compare(&library, &second, &inputs.get(number)).is_ok();
+    thread::scope(|scope| {
+        for share in 0..4 {
+            let (seeded, agrees) = (&seeded, &agrees);
+            scope.spawn(move || assert!(seeded(share).all(agrees)));
+        }
+    });
+}
+
+/// The largest book, and one with a chain of 500 parents.
+#[test]
+fn a_small_stack() {
+    let shape =
+        Shape { counterparties: 500, assets: 900, mitigants: 1_500, parents: Parents::Chain };
+    let chain = lifelike(&mut Random::new(117, 0), &shape);
+    for book in [largest_report_book().bytes(), chain.bytes()] {
+        let mut buffer = vec![0; LARGEST_REPORT];
+        let call = move || packed_report(&published(), &book, &mut buffer);
+        let thread = thread::Builder::new().stack_size(STACK + OWN_STACK).spawn(call).unwrap();
+        assert_eq!(thread.join().unwrap() >> 32, 0);
+    }
+}

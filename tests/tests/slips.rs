@@ -1,0 +1,126 @@
+//! The comparison can fail: each wrong variant of the second implementation, and each stand-in for
+//! a library, is caught by it.
+
+use weightrose_tests::compare::{compare, library, second, Lent, Subject, GUARD};
+use weightrose_tests::inputs::{sample, Input, Inputs};
+use weightrose_tests::raw::RawSchedule;
+use weightrose_tests::second::{report_by, Slip};
+use weightrose_tests::weightrose::{report, Answer, Refusal, HEADER, LARGEST_REPORT};
+
+const SEED: u64 = 117;
+const SEEDED: usize = 20_000;
+
+/// The first seeded input on which a subject parts from the library.
+fn caught(inputs: &Inputs, subject: Subject) -> Option<usize> {
+    let mut seeded = inputs.fixed()..inputs.fixed() + SEEDED;
+    seeded.find(|&number| compare(&library, subject, &inputs.get(number)).is_err())
+}
+
+#[test]
+fn each_slip_is_caught() {
+    let inputs = Inputs::new(SEED);
+    let passes = |slip: &Slip| {
+        let wrong = |schedule: &[u8], book: &[u8], lent: &mut Lent| {
+            report_by(slip, schedule, book, lent.buffer()).packed()
+        };
+        caught(&inputs, &wrong).is_none()
+    };
+    let missed: Vec<Slip> = Slip::ALL.iter().copied().filter(passes).collect();
+    assert!(missed.is_empty(), "not caught: {missed:?}");
+}
+
+#[test]
+fn the_right_one_is_not_caught() {
+    let inputs = Inputs::new(SEED);
+    assert_eq!(caught(&inputs, &second), None);
+}
+
+/// A subject that answers as the second implementation and then spoils what it lent.
+fn spoiling(schedule: &[u8], book: &[u8], lent: &mut Lent, spoil: fn(&mut Lent, Answer)) -> u64 {
+    let packed = second(schedule, book, lent);
+    spoil(lent, Answer::unpacked(packed).unwrap());
+    packed
+}
+
+fn is_caught(name: &str, subject: Subject) {
+    assert!(caught(&Inputs::new(SEED), subject).is_some(), "{name} was not caught");
+}
+
+#[test]
+fn bytes_written_out_of_place_are_caught() {
+    let after_buffer: Subject = &|schedule, book, lent| {
+        spoiling(schedule, book, lent, |lent, _| {
+            let end = lent.area().len() - GUARD;
+            lent.area()[end] ^= 1;
+        })
+    };
+    is_caught("a byte after the buffer", after_buffer);
+    let before_buffer: Subject = &|schedule, book, lent| {
+        spoiling(schedule, book, lent, |lent, _| lent.area()[GUARD - 1] ^= 1)
+    };
+    is_caught("a byte before the buffer", before_buffer);
+    let after_report: Subject = &|schedule, book, lent| {
+        spoiling(schedule, book, lent, |lent, answer| {
+            if let Answer::Report(length) = answer {
+                lent.buffer().iter_mut().skip(length).take(1).for_each(|byte| *byte ^= 1);
+            }
+        })
+    };
+    is_caught("a byte after the report", after_report);
+    let by_refusal: Subject = &|schedule, book, lent| {
+        spoiling(schedule, book, lent, |lent, answer| {
+            if let Answer::Refused(_) = answer {
+                lent.buffer().iter_mut().take(1).for_each(|byte| *byte ^= 1);
+            }
+        })
+    };
+    is_caught("a byte changed by a refusal", by_refusal);
+}
+
+/// Document 01's stand-ins that are not slips of one sentence.
+#[test]
+fn stand_ins_are_caught() {
+    let mut fixed = vec![0; LARGEST_REPORT];
+    let length = match report(&RawSchedule::published().bytes(), &sample().bytes(), &mut fixed) {
+        Answer::Report(length) => length,
+        Answer::Refused(refusal) => panic!("{refusal:?}"),
+    };
+    let one_report: Subject = &|_, _, lent| {
+        if lent.buffer().len() < length {
+            return Answer::Refused(Refusal::BufferShort).packed();
+        }
+        lent.buffer()[..length].copy_from_slice(&fixed[..length]);
+        length as u64
+    };
+    is_caught("one report for all", one_report);
+    let untouched: Subject = &|schedule, book, lent| {
+        let before = lent.area().to_vec();
+        let packed = second(schedule, book, lent);
+        lent.area().copy_from_slice(&before);
+        packed
+    };
+    is_caught("a buffer untouched after acceptance", untouched);
+    let more_lines: Subject = &|schedule, book, lent| {
+        spoiling(schedule, book, lent, |lent, answer| {
+            if answer == Answer::Report(HEADER) {
+                lent.buffer()[6] += 1;
+            }
+        })
+    };
+    is_caught("a header naming lines that were not written", more_lines);
+    for refusal in [Refusal::ScheduleLength, Refusal::Asset(1), Refusal::BufferShort] {
+        let refused: Subject = &|_, _, _| Answer::Refused(refusal).packed();
+        is_caught("one refusal for all", refused);
+    }
+}
+
+#[test]
+fn a_wrong_place_is_caught() {
+    let first_place: Subject = &|schedule, book, lent| match second(schedule, book, lent) {
+        packed if packed >> 32 == 11 => packed & !0xffff_ffff | 1,
+        packed => packed,
+    };
+    is_caught("the first place for every bad asset", first_place);
+    let input = Input::new("sample", &RawSchedule::published(), &sample());
+    assert!(compare(&library, first_place, &input).is_ok());
+}
