@@ -1,10 +1,15 @@
-# make demo            runs the desk on an example book under the published schedule
+# make demo            the published schedule's limits for an example fund
 # make test            proves everything and runs every check; its last line is 'N passed, 0 failed'
 # make library         target/staticlib/libweightrose.a
 # make install         library, header and pkg-config file below PREFIX
 # make compare-long    a million inputs against the second implementation
 # make bench           times of the library, of the second implementation and of a yardstick
 .PHONY: demo test library clean
+
+demo:
+	@mkdir -p target
+	@rt check limits >target/demo.log 2>&1 || { cat target/demo.log; exit 1; }
+	@target/bin/limits
 
 test: tests
 	@rt ci
