@@ -1,4 +1,4 @@
-# make demo            the published schedule's limits for an example fund
+# make demo            runs the desk on an example book under the published schedule
 # make test            proves everything and runs every check; its last line is 'N passed, 0 failed'
 # make library         target/staticlib/libweightrose.a
 # make install         library, header and pkg-config file below PREFIX
@@ -6,10 +6,16 @@
 # make bench           times of the library, of the second implementation and of a yardstick
 .PHONY: demo test library clean
 
-demo:
+demo: target/demo
+	@echo 'Published schedule; one ungraded name with two assets of 3,000,000.00, kinds 11 and 6.'
+	@echo 'top tier exposure limit left excess'
+	@target/bin/desk <crates/desk/stdin
+
+target/demo: crates.txt $(wildcard crates/*/src/*.rt)
 	@mkdir -p target
-	@rt check limits >target/demo.log 2>&1 || { cat target/demo.log; exit 1; }
-	@target/bin/limits
+	@echo 'Proving the desk; this takes some minutes the first time.'
+	@rt check desk >target/demo.log 2>&1 || { cat target/demo.log; exit 1; }
+	@touch target/demo
 
 test: tests
 	@rt ci

@@ -2,10 +2,9 @@
 --   adding-starts adding-on adding-ends   the counts are added up place by place
 --   by-length by-header by-records        the check by the first section that refuses
 use mathlib.Core.List.{List}
-use mathlib.Core.Path.{_≡_, refl, sym, _∙_}
-use Prim.Native.Nat.{ℕ, zero, suc, _+_, _*_, _-_, _≤_, _<_}
+use mathlib.Core.Path.{_≡_, sym, _∙_}
+use Prim.Native.Nat.{ℕ, suc, _+_, _*_, _-_, _≤_, _<_}
 use native.Mathlib.Omega.{arith}
-use lib.Dec.{leb}
 use lib.ListN.{length}
 use borrow.Author.Tests.{le-leb, lt-leb}
 use Rattle.words.specs.Words.{sumOf}
@@ -16,7 +15,6 @@ use Rattle.refusal.specs.declared.Checked.{Checked}
 use Rattle.refusal.specs.declared.Checked.the-variants.{Fine, Bad}
 use Rattle.refusal.specs.declared.Refusal.{Refusal}
 use Rattle.refusal.specs.declared.Refusal.the-variants.{BookLength}
-use Rattle.refusal.specs.Chain.{refuse_unless_, _andThen_}
 
 -- `sum` is the counts of the assets before a place; the next asset's first mitigant is at place 1 + sum
 pub record Adding (b : List ℕ) (sum place : ℕ) : Type 0 where

@@ -2,12 +2,11 @@
 --   header-fits   what refusals 6 to 9 leave of a header
 --   accepted      what refusals 5 to 13 leave of a book
 --   share-le      what a base within its bounds counts for is at most M
-use mathlib.Core.Bool.{Bool, true, false, not, _&&_, _||_}
+use mathlib.Core.Bool.{Bool, true, false, _||_}
 use mathlib.Core.List.{List, [], _∷_}
-use mathlib.Core.Path.{_≡_, refl, sym, ap, _∙_}
-use Prim.Native.Nat.{ℕ, zero, suc, _+_, _*_, _-_, _/_, _%_, _≤_, _<_}
+use mathlib.Core.Path.{_≡_}
+use Prim.Native.Nat.{ℕ, _+_, _*_, _-_, _/_, _%_, _≤_, _<_}
 use native.Mathlib.Omega.{arith}
-use lib.Dec.{leb, ltb, eqb}
 use lib.IntN.{ℤ, pos, negsuc}
 use lib.Signed.{leZ}
 use lib.ListN.{length}
@@ -15,8 +14,7 @@ use borrow.Author.Tests.{leb-true, ltb-true, eqb-true}
 use Rattle.words.specs.Words.{_≤?_, _<?_, _=?_, if_then_else_}
 use Rattle.words.specs.Choice.{both, each-true, never}
 use Rattle.wire.specs.Bytes.{M, byteAt, u16At}
-use Rattle.refusal.specs.declared.Checked.{Checked}
-use Rattle.refusal.specs.declared.Checked.the-variants.{Fine, Bad}
+use Rattle.refusal.specs.declared.Checked.the-variants.{Fine}
 use Rattle.refusal.specs.declared.Refusal.{Refusal}
 use Rattle.refusal.specs.declared.Refusal.the-variants.{BookLength, BookMark, BookVersion, BookCounts, BookAmounts, MitigantCounts}
 use Rattle.refusal.specs.Chain.{refuse_unless_, _andThen_}

@@ -1,8 +1,8 @@
 -- Refusals 5 to 13.
-use mathlib.Core.Bool.{Bool, true, false, not, _&&_, _||_}
+use mathlib.Core.Bool.{Bool, not, _&&_, _||_}
 use mathlib.Core.List.{List}
 use Prim.Native.Nat.{ℕ, _+_, _*_, _/_, _%_}
-use lib.IntN.{ℤ, pos, negsuc}
+use lib.IntN.{pos, negsuc}
 use lib.Signed.{leZ}
 use lib.ListN.{length}
 use Rattle.words.specs.Words.{_≤?_, _<?_, _=?_, if_then_else_, sumOf}
@@ -13,7 +13,7 @@ use Rattle.refusal.specs.declared.Refusal.the-variants.{BookLength, BookMark, B
 use Rattle.refusal.specs.Chain.{refuse_unless_, _andThen_, refuseEach}
 use Rattle.book.specs.declared.Asset.{Asset}
 use Rattle.book.specs.declared.Mitigant.{Mitigant}
-use Rattle.book.specs.Records.{C, N, K, total, base, excluded, counterpartyStart, counterpartyAt, assetAt, mitigantAt}
+use Rattle.book.specs.Records.{C, N, K, total, base, excluded, counterpartyStart, assetAt, mitigantAt}
 use Rattle.book.specs.Fields.{reinsurance, rises}
 use Rattle.book.specs.Book.{Holding, holdingsFrom}
 

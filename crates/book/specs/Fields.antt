@@ -1,5 +1,5 @@
 -- The words of document 01 for fields and flags of a record.
-use mathlib.Core.Bool.{Bool, true, false, _&&_}
+use mathlib.Core.Bool.{Bool, _&&_}
 use Prim.Native.Nat.{ℕ}
 use Rattle.wire.specs.Bytes.{bit}
 use Rattle.book.specs.declared.Kind.{Kind}

@@ -1,7 +1,6 @@
 -- "Book": what stands where in its bytes. Only this file and Book know places in the bytes.
-use mathlib.Core.Bool.{Bool, true, false}
-use mathlib.Core.List.{List, [], _∷_}
-use Prim.Native.Nat.{ℕ, zero, suc, _+_, _*_, _-_, _/_, _%_}
+use mathlib.Core.List.{List}
+use Prim.Native.Nat.{ℕ, _+_, _*_, _-_, _/_, _%_}
 use lib.IntN.{ℤ}
 use Rattle.words.specs.Words.{_=?_, if_then_else_}
 use Rattle.wire.specs.Bytes.{byteAt, u16At, u64At, i64At}

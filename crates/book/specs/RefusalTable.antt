@@ -3,7 +3,7 @@
 --   headers     both sides of each edge of a header
 --   edges       both sides of each edge of a record's fields
 --   two-faults  the lower number and the first record win
-use mathlib.Core.Bool.{Bool, true, false, _&&_}
+use mathlib.Core.Bool.{Bool, _&&_}
 use mathlib.Core.List.{List, [], _∷_, _++_}
 use Prim.Native.Nat.{ℕ, _+_, _-_}
 use lib.Dec.{T}

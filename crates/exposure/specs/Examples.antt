@@ -1,7 +1,7 @@
 -- Records and books for the computed cases, from the fields that matter there; every other field is 0.
 use mathlib.Core.List.{List, [], _∷_}
 use Prim.Native.Nat.{ℕ, _-_}
-use lib.IntN.{ℤ, pos}
+use lib.IntN.{pos}
 use lib.ListN.{length}
 use Rattle.words.specs.Words.{_=?_, if_then_else_, sumOf, eachOf}
 use Rattle.book.specs.declared.Kind.{Kind}

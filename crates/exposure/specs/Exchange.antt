@@ -1,16 +1,13 @@
 -- Two neighbouring holdings in the other order: every sum over exposures stays as it is (exchange), and so do a group's exposure in a tier, the A3 part
 -- of it and W (exchange-exposure, exchange-a3, exchange-w). Parts depend on a book's counterparties alone (parts-by, holding-by).
-use mathlib.Core.Bool.{not, _&&_}
 use mathlib.Core.List.{List, [], _∷_, _++_}
 use mathlib.Core.Path.{_≡_, refl, sym, ap, _∙_}
 use Prim.Native.Nat.{ℕ, _+_, _-_}
 use native.Mathlib.Omega.{arith}
-use Rattle.words.specs.Words.{_=?_, if_then_else_, sumOf, eachOf}
+use Rattle.words.specs.Words.{sumOf}
 use Rattle.words.specs.Sums.{sum-each, sum-each-same}
 use Rattle.book.specs.declared.Asset.{Asset}
 use Rattle.book.specs.declared.Mitigant.{Mitigant}
-use Rattle.book.specs.declared.Kind.the-variants.{LifeCompany}
-use Rattle.book.specs.Fields.{_is_}
 use Rattle.book.specs.Book.{Book, Holding, topOf}
 use Rattle.exposure.specs.declared.Exposure.{Exposure}
 use Rattle.exposure.specs.Values.{net}
@@ -61,14 +58,12 @@ module _ (B : Book) (before behind : List Holding) (h k : Holding) where
 
   pub exchange-exposure : (g t : ℕ) → exposureOf (withHoldings B (before ++ (h ∷ k ∷ behind))) g t ≡ exposureOf (withHoldings B (before ++ (k ∷ h ∷ behind))) g t
   unfolding exposureOf amountOf topOf tierOf
-  exchange-exposure g t = exchange (λ (x : Exposure). if topOf B (x .counterparty) =? g && tierOf B x =? t then x .amount else 0)
+  exchange-exposure g t = exchange _
 
   pub exchange-a3 : (g t : ℕ) → a3ExposureOf (withHoldings B (before ++ (h ∷ k ∷ behind))) g t ≡ a3ExposureOf (withHoldings B (before ++ (k ∷ h ∷ behind))) g t
   unfolding a3ExposureOf amountOf topOf tierOf
-  exchange-a3 g t =
-      exchange
-      (λ (x : Exposure). if topOf B (x .counterparty) =? g && tierOf B x =? t && not (B .counterparty (x .counterparty) is LifeCompany) then x .amount else 0)
+  exchange-a3 g t = exchange _
 
   pub exchange-w : W (withHoldings B (before ++ (h ∷ k ∷ behind))) ≡ W (withHoldings B (before ++ (k ∷ h ∷ behind)))
   unfolding W amountOf tierOf
-  exchange-w = exchange (λ (x : Exposure). if tierOf B x =? 11 && x .kind =? 3 then x .amount else 0)
+  exchange-w = exchange _

@@ -4,12 +4,12 @@
 --   covers coveredKind                         what a mitigant covers, and what that becomes
 --   coveredPart remainder partsOf              the exposures of an asset
 --   exposuresOf exposures                      those of a holding and of a book
-use mathlib.Core.Bool.{Bool, true, false, not, _&&_, _||_}
+use mathlib.Core.Bool.{Bool, not, _&&_, _||_}
 use mathlib.Core.List.{List, [], _∷_}
 use Prim.Native.Nat.{ℕ, _-_, _/_, min}
 use Rattle.words.specs.Words.{_≤?_, _=?_, if_then_else_, eachOf}
 use Rattle.wire.specs.Bytes.{bit}
-use Rattle.book.specs.declared.Kind.the-variants.{Other, Bank, HomeGovernment, ProvincialGovernment, LifeCompany}
+use Rattle.book.specs.declared.Kind.the-variants.{Bank, HomeGovernment, ProvincialGovernment, LifeCompany}
 use Rattle.book.specs.declared.Counterparty.{Counterparty}
 use Rattle.book.specs.declared.Asset.{Asset}
 use Rattle.book.specs.declared.Mitigant.{Mitigant}

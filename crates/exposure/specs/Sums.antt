@@ -2,11 +2,11 @@
 --   amountOf                        the exposures that pass a test
 --   exposureOf a3ExposureOf         a group's in a tier
 --   W allNet linkedNet unlimited    the whole fund's
-use mathlib.Core.Bool.{Bool, true, false, not, _&&_, _||_}
+use mathlib.Core.Bool.{Bool, not, _&&_}
 use mathlib.Core.List.{List}
 use Prim.Native.Nat.{ℕ, _+_}
 use Rattle.words.specs.Words.{_=?_, if_then_else_, sumOf}
-use Rattle.book.specs.declared.Kind.the-variants.{Other, Bank, HomeGovernment, ProvincialGovernment, LifeCompany}
+use Rattle.book.specs.declared.Kind.the-variants.{LifeCompany}
 use Rattle.book.specs.Fields.{_is_, linked}
 use Rattle.book.specs.Book.{Book, Holding, topOf}
 use Rattle.exposure.specs.declared.Exposure.{Exposure}

@@ -1,10 +1,10 @@
 -- "Tiers (A1, A2)": the tier of an exposure, or noLimit.
 --   tierOf tierBy lowerTier                          by kind and counterparty
 --   reinsuranceTier gradedTier ungradedTier byMonths    of kind 9
-use mathlib.Core.Bool.{Bool, true, false, not, _&&_, _||_}
+use mathlib.Core.Bool.{not, _&&_, _||_}
 use Prim.Native.Nat.{ℕ}
 use Rattle.words.specs.Words.{_≤?_, _=?_, if_then_else_}
-use Rattle.book.specs.declared.Kind.the-variants.{Other, Bank, HomeGovernment, ProvincialGovernment, LifeCompany}
+use Rattle.book.specs.declared.Kind.the-variants.{Bank, HomeGovernment, ProvincialGovernment, LifeCompany}
 use Rattle.book.specs.declared.Counterparty.{Counterparty}
 use Rattle.book.specs.Fields.{_is_, graded, related, affiliate, secondLimb}
 use Rattle.book.specs.Book.{Book}

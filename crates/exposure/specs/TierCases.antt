@@ -1,11 +1,10 @@
 -- Tiers, computed: each one reached, each condition failed, and the months at both sides of each step.
 -- A counterparty's flags: 1 related, 2 approved affiliate, 4 second limb. 13 is no limit.
-use mathlib.Core.List.{List, [], _∷_, map}
+use mathlib.Core.List.{[], _∷_, map}
 use mathlib.Core.Path.{_≡_, refl}
 use Prim.Native.Nat.{ℕ}
 use Rattle.book.specs.declared.Kind.the-variants.{Other, Bank, HomeGovernment, ProvincialGovernment, LifeCompany}
 use Rattle.book.specs.declared.Counterparty.{Counterparty}
-use Rattle.exposure.specs.declared.Exposure.{Exposure}
 use Rattle.exposure.specs.Tier.{tierBy}
 use Rattle.exposure.specs.Examples.{opened, party}
 

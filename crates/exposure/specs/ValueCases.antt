@@ -1,7 +1,7 @@
 -- Values and refusals 14 and 15, computed.
-use mathlib.Core.List.{List, [], _∷_, map}
+use mathlib.Core.List.{[], _∷_, map}
 use mathlib.Core.Path.{_≡_, refl}
-use Prim.Native.Nat.{ℕ, _+_}
+use Prim.Native.Nat.{ℕ}
 use Rattle.words.specs.Words.{sumOf}
 use Rattle.wire.specs.Bytes.{M}
 use Rattle.refusal.specs.declared.Checked.{Checked}
@@ -10,7 +10,7 @@ use Rattle.refusal.specs.declared.Refusal.the-variants.{ReinsuranceValues, Stre
 use Rattle.book.specs.declared.Asset.{Asset}
 use Rattle.book.specs.Book.{Book}
 use Rattle.exposure.specs.Values.{stressed, net, overReinsurance, VAF, beforeExcluded, VAF′, fundCheck}
-use Rattle.exposure.specs.Examples.{asset, plain, reinsured, held, fund}
+use Rattle.exposure.specs.Examples.{asset, reinsured, held, fund}
 
 -- reinsurance by flags, insurance and combination stress
 abbrev stress : ℕ → ℕ → ℕ → Asset

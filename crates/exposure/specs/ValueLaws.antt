@@ -1,5 +1,5 @@
 -- Laws of an asset's values: stressed-le, net-le (at most M, in a book that is accepted).
-use Prim.Native.Nat.{ℕ, _≤_, max}
+use Prim.Native.Nat.{ℕ, _≤_}
 use native.Mathlib.Omega.{arith}
 use Rattle.words.specs.Choice.{if-le}
 use Rattle.wire.specs.Bytes.{M}

@@ -4,8 +4,7 @@
 --   reinsuranceValues allNetted stressedLessNetted    such sums
 --   VAF beforeExcluded VAF′          of a book
 --   fundCheck                        14 and 15
-use mathlib.Core.Bool.{Bool, true, false, _&&_}
-use mathlib.Core.List.{List}
+use mathlib.Core.Bool.{_&&_}
 use Prim.Native.Nat.{ℕ, _+_, _-_, max}
 use Rattle.words.specs.Words.{_≤?_, if_then_else_, sumOf}
 use Rattle.wire.specs.Bytes.{M}

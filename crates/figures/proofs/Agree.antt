@@ -9,7 +9,7 @@ use Rattle.words.specs.Sums.{sum-same, each-same, all-map, all-count}
 use Rattle.cascade.specs.Cascade.{insert, ranked, next, standing, left, excess, excessSum}
 use Rattle.cascade.proofs.Ranking.{ranked-only}
 use Rattle.figures.specs.Fund.{Fund}
-use Rattle.figures.specs.Report.{ranking, excessOf, excessSumOf, tierSet, lineOf, cellLines, groupLines, linesOf, groupExcess, charge, joined, headBytes, headOf, report}
+use Rattle.figures.specs.Report.{ranking, excessOf, excessSumOf, tierSet, lineOf, cellLines, groupLines, linesOf, groupExcess, charge, headOf, report}
 use Rattle.figures.proofs.Back.{same-line}
 
 abbrev Below : ℕ → List ℕ → Type 0

@@ -1,9 +1,9 @@
 -- Reports computed and read back: T1 and T2 of document 01, and a group of thirteen tiers among which limits are equal.
 use mathlib.Core.Path.{_≡_, refl}
-use mathlib.Core.List.{List, [], _∷_, _++_}
-use Prim.Native.Nat.{ℕ, _+_, _-_, _*_, _<_}
+use mathlib.Core.List.{List, [], _∷_}
+use Prim.Native.Nat.{ℕ}
 use lib.ListN.{length, take}
-use Rattle.words.specs.Words.{_=?_, if_then_else_, sumOf, sum, eachOf, countFrom}
+use Rattle.words.specs.Words.{_=?_, if_then_else_, sum, eachOf, countFrom}
 use Rattle.wire.specs.Bytes.{byteAt, u16At, u64At}
 use Rattle.cascade.specs.Cascade.{tiers, byTier, byLimit, ranks, insert, ranked, next, standing, left, excess, excessSum}
 use Rattle.figures.specs.declared.Line.{Line}

@@ -10,15 +10,15 @@ use lib.ListN.{length, length-append}
 use Rattle.words.specs.Words.{_≤?_, _<?_, _=?_, if_then_else_, sum}
 use Rattle.words.specs.Choice.{both}
 use Rattle.words.specs.Sums.{sum-le, sum-same}
-use Rattle.cascade.specs.Cut.{stands, taken, Feasible, Optimal}
+use Rattle.cascade.specs.Cut.{taken, Optimal}
 use Rattle.cascade.proofs.Core.{Ordered}
 use Rattle.cascade.proofs.Fund.{ranked-optimal, optimal-same, excess-sum-taken}
 use Rattle.figures.specs.declared.Line.{Line}
 use Rattle.figures.specs.Fund.{Fund, overGroups}
-use Rattle.figures.specs.Report.{headSize, lineSize, ranking, excessOf, excessSumOf, lineOf, linesOf, groupExcess, charge, report}
+use Rattle.figures.specs.Report.{headSize, lineSize, ranking, excessOf, excessSumOf, lineOf, groupExcess, charge, report}
 use Rattle.figures.specs.Read.{lineAt, linesIn, isOf, groupExcessIn, chargeIn, readExcess}
-use Rattle.figures.specs.LeastCuts.{TierOf, OneLine, FeasibleAt, standsAt, takenOf, LeastCuts}
-use Rattle.figures.proofs.Sums.{sum-none, sum-one, sum-zero-at, none-of, if-zero, One, one-of}
+use Rattle.figures.specs.LeastCuts.{TierOf, OneLine, FeasibleAt, takenOf, LeastCuts}
+use Rattle.figures.proofs.Sums.{sum-none, sum-one, sum-zero-at, none-of, if-zero, one-of}
 use Rattle.figures.proofs.Written.{cell, lines-in, group-excess-in, charge-in, read-sum}
 use Rattle.figures.proofs.Size.{report-long}
 

@@ -7,7 +7,7 @@ use native.Mathlib.Omega.{arith}
 use native.Mathlib.Nat.{pow-suc, one-mul}
 use lib.Count.{ones, ones-cat, ones-le}
 use lib.ListN.{length, length-append}
-use Rattle.words.specs.Words.{_<?_, if_then_else_, sumOf, sum}
+use Rattle.words.specs.Words.{_<?_, if_then_else_, sum}
 use Rattle.words.specs.Sums.{sum-le, sum-same, sum-length, length-each}
 use Rattle.figures.specs.declared.Line.{Line}
 use Rattle.figures.specs.Fund.{Fund, overGroups}

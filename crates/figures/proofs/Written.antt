@@ -1,15 +1,14 @@
 -- What is read of a report: its figures, and a sum over its lines.
-use mathlib.Core.Path.{_≡_, refl, ap, sym, _∙_}
+use mathlib.Core.Path.{_≡_, refl, ap, _∙_}
 use mathlib.Core.Bool.{Bool, true, false}
 use mathlib.Core.List.{List, [], _∷_, _++_, append-assoc}
-use Prim.Native.Nat.{ℕ, _+_, _*_, _≤_, _<_}
+use Prim.Native.Nat.{ℕ, _+_, _≤_, _<_}
 use native.Mathlib.Omega.{arith}
 use lib.ListN.{length}
-use Rattle.words.specs.Words.{_<?_, if_then_else_, sumOf, sum, eachOf, countFrom}
+use Rattle.words.specs.Words.{_<?_, if_then_else_, sumOf, sum, countFrom}
 use Rattle.words.specs.Sums.{sum-each, sum-each-same, sum-count, sum-same}
 use Rattle.wire.specs.Bytes.{u16At, u64At}
 use Rattle.wire.proofs.Laws.{number}
-use Rattle.cascade.proofs.Core.{Lists}
 use Rattle.cascade.proofs.Ranking.{ranked-lists}
 use Rattle.figures.specs.declared.Line.{Line}
 use Rattle.figures.specs.declared.Head.{Head}

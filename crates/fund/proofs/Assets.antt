@@ -1,6 +1,6 @@
 -- Amounts of a book's assets by place: their sum (overAssets), the sum below a place (Below) and a table filled below a place (Entries), as a
 -- loop over rising places has them.
-use mathlib.Core.Path.{_≡_, refl, sym, ap, _∙_}
+use mathlib.Core.Path.{_≡_, refl, ap, _∙_}
 use mathlib.Core.List.{List}
 use mathlib.Core.Bool.{Bool, true, false}
 use Prim.Native.Nat.{ℕ, zero, suc, _+_, _*_, _-_, _≤_, _<_, _^_}
@@ -15,6 +15,7 @@ use Rattle.book.specs.declared.Asset.{Asset}
 use Rattle.book.specs.Records.{C, N, assetAt}
 use Rattle.book.specs.Book.{Holding, holdingsFrom}
 use Rattle.book.specs.Accepted.{Accepted, AssetFits}
+use Rattle.words.specs.Tables.{filled, filled-none, filled-next}
 
 -- the sum of an amount over `more` assets from a place on
 unfoldable pub overAssets : (Asset → ℕ) → List ℕ → ℕ → ℕ → ℕ
@@ -77,19 +78,27 @@ module _ {f : Asset → ℕ} {b : List ℕ} {place s : ℕ} (k : Below f b place
 
 -- ---- a table filled below a place
 
-pub record Entries (f : Asset → ℕ) (b t : List ℕ) (place : ℕ) : Type 0 where
+pub record Entries (f : Asset → ℕ) (b t₀ t : List ℕ) (place : ℕ) : Type 0 where
   pub size : N b < length t
+  pub whole : t ≡ filled (λ p. f (assetAt b p)) (place - 1) t₀
   pub each : (p : ℕ) → 0 < p → p < place → getD t p 0 ≡ f (assetAt b p)
 
-pub entries-start : (f : Asset → ℕ) {b t : List ℕ} → N b < length t → Entries f b t 1
-entries-start f h = record { size = h; each = λ p l g. absurd (omega arith) }
+pub entries-start : (f : Asset → ℕ) {b t : List ℕ} → N b < length t → Entries f b t t 1
+entries-start f {b} {t} h = record { size = h; whole = filled-none (λ p. f (assetAt b p)) t; each = λ p l g. absurd (omega arith) }
 
-pub entries-step : {f : Asset → ℕ} {b t : List ℕ} {place v : ℕ} → Entries f b t place → place ≤ N b → v ≡ f (assetAt b place) → Entries f b (set t place v) (place + 1)
-entries-step {f} {b} {t} {place} {v} k h e = record { size = rw length-set (k .size); each = each }
-  where
-    each : (p : ℕ) → 0 < p → p < place + 1 → getD (set t place v) p 0 ≡ f (assetAt b p)
-    each p l g = by (eqb p place) refl
-      where
-        by : (q : Bool) → eqb p place ≡ q → getD (set t place v) p 0 ≡ f (assetAt b p)
-        by true z = rw (eqb-true p place z, e) (getD-set-same t place (f (assetAt b place)) 0 (omega (arith, k .size)))
-        by false z = getD-set-other t place p v 0 (eqb-false p place z) ∙ k .each p l (omega (arith, eqb-false p place z))
+module _ {f : Asset → ℕ} {b t₀ t : List ℕ} {place : ℕ} (k : Entries f b t₀ t place) where
+  pub entries-step : {v : ℕ} → 0 < place → place ≤ N b → v ≡ f (assetAt b place) → Entries f b t₀ (set t place v) (place + 1)
+  entries-step {v} l h e = record { size = rw length-set (k .size); whole = one-more; each = each }
+    where
+      one-more : set t place v ≡ filled (λ p. f (assetAt b p)) (place + 1 - 1) t₀
+      one-more = let d : place + 1 - 1 ≡ place = omega arith in rw d (filled-next (λ p. f (assetAt b p)) t₀ l (k .whole) e)
+
+      each : (p : ℕ) → 0 < p → p < place + 1 → getD (set t place v) p 0 ≡ f (assetAt b p)
+      each p l g = by (eqb p place) refl
+        where
+          by : (q : Bool) → eqb p place ≡ q → getD (set t place v) p 0 ≡ f (assetAt b p)
+          by true z = rw (eqb-true p place z, e) (getD-set-same t place (f (assetAt b place)) 0 (omega (arith, k .size)))
+          by false z = getD-set-other t place p v 0 (eqb-false p place z) ∙ k .each p l (omega (arith, eqb-false p place z))
+
+  pub entries-end : place ≡ N b + 1 → t ≡ filled (λ p. f (assetAt b p)) (N b) t₀
+  entries-end h = let d : place - 1 ≡ N b = omega arith in rw d at (k .whole)

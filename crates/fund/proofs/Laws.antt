@@ -1,23 +1,22 @@
 -- Laws of a fund's values. Sums of an accepted book, at most M for each of 900 assets: all-net-le, linked-net-le, values-le, netted-le, stressed-sum-le.
 -- VAF and VAF′ of a fund that refusals 14 and 15 let pass, at most M: vaf-le, stressed-vaf-le; their differences don't pass below 0: vaf-exact, stressed-vaf-exact.
-use mathlib.Core.Path.{_≡_, refl, sym, ap, _∙_}
+use mathlib.Core.Path.{_≡_, refl}
 use mathlib.Core.List.{List}
 use mathlib.Core.Bool.{Bool, true, false, _&&_}
 use Prim.Native.Nat.{ℕ, _+_, _*_, _-_, _≤_}
 use native.Mathlib.Omega.{arith}
 use borrow.Author.Tests.{leb-true}
-use Rattle.words.specs.Words.{_≤?_, if_then_else_, sumOf}
-use Rattle.words.specs.Choice.{by-test, both, if-le}
+use Rattle.words.specs.Words.{_≤?_, if_then_else_}
+use Rattle.words.specs.Choice.{both, if-le}
 use Rattle.wire.specs.Bytes.{M}
-use Rattle.refusal.specs.declared.Checked.{Checked}
-use Rattle.refusal.specs.declared.Checked.the-variants.{Fine, Bad}
+use Rattle.refusal.specs.declared.Checked.the-variants.{Fine}
 use Rattle.refusal.specs.declared.Refusal.the-variants.{ReinsuranceValues, StressedAssets}
-use Rattle.refusal.specs.Chain.{refuse_unless_, _andThen_}
+use Rattle.refusal.specs.Chain.{refuse_unless_}
 use Rattle.refusal.specs.Laws.{then-first, then-rest, unless-fine}
 use Rattle.book.specs.declared.Asset.{Asset}
 use Rattle.book.specs.Records.{C, N, total}
 use Rattle.book.specs.Fields.{linked, reinsurance}
-use Rattle.book.specs.Book.{Book, Holding, holdingsFrom, bookOf}
+use Rattle.book.specs.Book.{Book, bookOf}
 use Rattle.book.specs.Accepted.{Accepted, AssetFits}
 use Rattle.exposure.specs.Values.{stressed, net, ofReinsurance, overReinsurance, reinsuranceValues, allNetted, stressedLessNetted, VAF, beforeExcluded, VAF′, fundCheck}
 use Rattle.exposure.specs.ValueLaws.{stressed-le, net-le}

@@ -1,7 +1,7 @@
 -- What one asset adds to each table and sum, from the values of its parts.
 use mathlib.Core.Path.{_≡_}
 use mathlib.Core.List.{List}
-use mathlib.Core.Bool.{Bool, true, false}
+use mathlib.Core.Bool.{Bool}
 use Prim.Native.Nat.{ℕ, _-_, _/_}
 use Rattle.words.specs.Words.{if_then_else_}
 use Rattle.book.specs.declared.Asset.{Asset}

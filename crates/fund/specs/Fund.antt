@@ -2,12 +2,14 @@
 --   Worths      what one asset adds to each table and sum
 --   added       the sums with one asset more; Fits: they still fit 64 bits
 --   FundSums    the sums of a book
---   Valued      the same, and both tables by an asset's place
+--   Valued      the sums, and both tables
 use mathlib.Core.List.{List}
 use mathlib.Core.Path.{_≡_}
 use Prim.Native.Nat.{ℕ, _+_, _-_, _<_, _^_}
 use Rattle.words.specs.Words.{if_then_else_}
+use Rattle.words.specs.Tables.{filled}
 use Rattle.book.specs.declared.Asset.{Asset}
+use Rattle.book.specs.Records.{N, assetAt}
 use Rattle.book.specs.Fields.{linked}
 use Rattle.book.specs.Book.{Book, bookOf}
 use Rattle.exposure.specs.Values.{stressed, net, ofReinsurance, reinsuranceValues, allNetted, stressedLessNetted}
@@ -49,6 +51,9 @@ pub record FundSums (b : List ℕ) (v : Values) : Type 0 where
   pub netted : v .netted ≡ allNetted (bookOf b)
   pub stressed : v .stressed ≡ stressedLessNetted (bookOf b)
 
-pub record Valued (b nets caps : List ℕ) (v : Values) : Type 0 where
+-- what both tables hold, where they held nets₀ and caps₀, and the sums
+pub record Valued (b nets₀ caps₀ nets caps : List ℕ) (v : Values) : Type 0 where
+  pub nets-filled : nets ≡ filled (λ p. net (assetAt b p)) (N b) nets₀
+  pub caps-filled : caps ≡ filled (λ p. mayBeCovered (bookOf b) (assetAt b p)) (N b) caps₀
   pub tables : Tables nets caps b
   pub sums : FundSums b v

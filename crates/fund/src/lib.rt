@@ -2,7 +2,7 @@
 use refusal::Checked;
 use refusal::Refusal;
 ghost use mathlib.Core.Path.{_≡_};
-ghost use Prim.Native.Nat.{ℕ, _+_, _≤_, _<_};
+ghost use Prim.Native.Nat.{_≤_, _<_};
 ghost use lib.ListN.{length};
 ghost use Rattle.words.specs.Words.{if_then_else_};
 ghost use Rattle.book.specs.Records.{N, assetAt};
@@ -75,7 +75,7 @@ fn add(v: Values, w: Worth) -> Values
 // Fills both tables by the assets' places, and gives the sums.
 pub fn value(b: &[u8], n: usize, nets: &mut [u64], caps: &mut [u64]) -> Values
     requires { ⌜ (Accepted (now b)) × (n ≡ N (now b)) × (n < length (now nets)) × (n < length (now caps)) ⌝ }
-    ensures { λ r. ⌜ Valued (now (b .entry)) (now (nets .exit)) (now (caps .exit)) r ⌝ }
+    ensures { λ r. ⌜ Valued (now (b .entry)) (now (nets .entry)) (now (caps .entry)) (now (nets .exit)) (now (caps .exit)) r ⌝ }
 {
     let mut v = Values {
         all: 0,

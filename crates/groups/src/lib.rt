@@ -5,7 +5,7 @@ ghost use lib.ListN.{length};
 ghost use Rattle.book.specs.Records.{C, counterpartyAt};
 ghost use Rattle.book.specs.Book.{bookOf, parentOf, topOf};
 ghost use Rattle.book.specs.Accepted.{Accepted};
-ghost use Rattle.groups.specs.Tops.{Known};
+ghost use Rattle.groups.specs.Tops.{Known, Topped};
 
 // The parent of a place, 0 for none.
 fn parent(book: &[u8], place: usize) -> usize
@@ -34,7 +34,7 @@ pub fn top(book: &[u8], table: &[usize], known: usize, place: usize) -> usize
 // The topmost parent of every place. In rising order a place's parent is known before it, so each takes at most two calls of `top`.
 pub fn tops(book: &[u8], c: usize, table: &mut [usize])
     requires { ⌜ (Accepted (now book)) × (c ≡ C (now book)) × (c < length (now table)) ⌝ }
-    ensures { λ r. ⌜ Known (now (book .entry)) c (now (table .exit)) ⌝ }
+    ensures { λ r. ⌜ Topped (now (book .entry)) c (now (table .entry)) (now (table .exit)) ⌝ }
 {
     let mut place = 1;
     while place <= c {

@@ -1,10 +1,9 @@
 -- T2 of document 01 as a table: row 0 is unused, and column 13 is no tier.
 use mathlib.Core.Path.{_≡_, refl}
 use mathlib.Core.List.{List, [], _∷_}
-use Prim.Native.Nat.{ℕ, _+_, _-_, _*_, _<_}
-use lib.ListN.{length}
+use Prim.Native.Nat.{ℕ}
 use Rattle.words.specs.Words.{sum, eachOf, countFrom}
-use Rattle.cascade.specs.Cascade.{byTier, byLimit, ranks, insert, ranked, next, standing, left, excess, excessSum}
+use Rattle.cascade.specs.Cascade.{ranks, insert, ranked, next, standing, left, excess, excessSum}
 use Rattle.figures.specs.Report.{tierSet, lineOf, cellLines, linesOf, groupExcess, charge}
 use Rattle.lines.specs.declared.Figures.{Figures}
 use Rattle.lines.specs.Table.{row, setOf, tableFund}

@@ -1,7 +1,7 @@
 -- The sets of the groups' tiers, and the number of lines: the ones of the sets.
-use mathlib.Core.Path.{_≡_, refl, ap, sym, _∙_}
+use mathlib.Core.Path.{_≡_, ap, sym, _∙_}
 use mathlib.Core.List.{List, [], _∷_, _++_, map}
-use Prim.Native.Nat.{ℕ, _+_, _-_, _*_, _≤_, _<_}
+use Prim.Native.Nat.{ℕ, _+_, _-_, _≤_, _<_}
 use native.Mathlib.Omega.{arith}
 use lib.Count.{ones}
 use lib.ListN.{length, take, drop, getD, set, length-map}
@@ -18,7 +18,7 @@ use Rattle.lines.specs.declared.Figures.{Figures}
 use Rattle.lines.specs.Table.{row, setOf, tableFund}
 use Rattle.lines.specs.Promise.{Counted}
 use Rattle.lines.proofs.Rows.{ones-small}
-use Rattle.lines.proofs.Groups.{places-start, places-step, places-end, below, set-is}
+use Rattle.lines.proofs.Groups.{places-start, places-step, places-end, set-is}
 
 module _ (cells : List ℕ) where
   -- the set of group g's tiers

@@ -1,16 +1,15 @@
 -- The lines and excesses of the groups of a table, group by group.
 use mathlib.Core.Path.{_≡_, refl, ap, sym, _∙_}
-use mathlib.Core.Bool.{Bool, true, false}
-use mathlib.Core.List.{List, [], _∷_, _++_, map}
-use Prim.Native.Nat.{ℕ, zero, suc, _+_, _-_, _*_, _^_, _≤_, _<_}
+use mathlib.Core.List.{List, [], _∷_, _++_}
+use Prim.Native.Nat.{ℕ, suc, _+_, _-_, _^_, _≤_, _<_}
 use native.Mathlib.Omega.{arith}
 use native.Mathlib.Decide.{decLt}
 use borrow.Author.Tests.{lt-ltb}
 use lib.Count.{ones}
-use lib.ListN.{length, getD}
+use lib.ListN.{length}
 use lib.Pow.{pow-pos}
-use Rattle.words.specs.Words.{_<?_, if_then_else_, sum, eachOf, countFrom, All}
-use Rattle.words.specs.Sums.{sum-le, sum-same, each-append, each-same, all-map}
+use Rattle.words.specs.Words.{_<?_, if_then_else_, sum, eachOf, countFrom}
+use Rattle.words.specs.Sums.{sum-le, each-append, each-same, all-map}
 use Rattle.wire.specs.Bytes.{placed}
 use Rattle.cascade.specs.Cascade.{tiers, byTier, byLimit, ranked, excessSum}
 use Rattle.cascade.specs.Promise.{Cascaded}
@@ -21,7 +20,7 @@ use Rattle.figures.specs.declared.Line.{Line}
 use Rattle.figures.specs.Fund.{Fund}
 use Rattle.figures.specs.Report.{ranking, excessSumOf, tierSet, lineOf, cellLines, groupLines, linesOf, groupExcess, lineBytes, joined}
 use Rattle.figures.proofs.Sums.{sum-none, sum-zero-at}
-use Rattle.figures.proofs.Size.{group-count, line-count}
+use Rattle.figures.proofs.Size.{group-count}
 use Rattle.lines.specs.declared.Figures.{Figures}
 use Rattle.lines.specs.declared.Group.{Group}
 use Rattle.lines.specs.Table.{row, setOf, tableFund, noFigures, linesFund, tierLines}

@@ -1,6 +1,5 @@
 -- Rows of cells, arrays filled from the front, and the set of a row's tiers bit by bit.
-use mathlib.Core.Path.{_≡_, refl, ap, sym, _∙_}
-use mathlib.Core.Bool.{Bool, true, false}
+use mathlib.Core.Path.{_≡_, refl, _∙_}
 use mathlib.Core.List.{List}
 use Prim.Native.Nat.{ℕ, _+_, _*_, _^_, _≤_, _<_}
 use native.Mathlib.Omega.{arith}
@@ -12,7 +11,7 @@ use lib.Count.{ones, ones-le}
 use lib.ListN.{length, drop, getD, set, length-take, length-drop}
 use lib.Pow.{pow-mono}
 use lib.Seq.{getD-take, getD-drop, getD-set-same, getD-set-other}
-use Rattle.words.specs.Words.{_<?_, if_then_else_, sum}
+use Rattle.words.specs.Words.{_<?_, sum}
 use Rattle.cascade.specs.Cascade.{tiers, byTier}
 use Rattle.figures.specs.Report.{bitsOf}
 use Rattle.figures.proofs.Size.{bits-lt}

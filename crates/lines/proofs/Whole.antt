@@ -9,7 +9,7 @@ use Rattle.wire.proofs.Laws.{placed-before}
 use Rattle.cascade.specs.Cascade.{tiers}
 use Rattle.figures.specs.declared.Head.{Head}
 use Rattle.figures.specs.Fund.{Fund}
-use Rattle.figures.specs.Report.{headSize, lineSize, tierSet, lineOf, cellLines, linesOf, groupExcess, charge, joined, headBytes, headOf, report}
+use Rattle.figures.specs.Report.{headSize, tierSet, lineOf, cellLines, linesOf, groupExcess, charge, joined, headBytes, headOf, report}
 use Rattle.figures.proofs.Written.{head-long}
 use Rattle.figures.proofs.Size.{lines-most, joined-long, report-long}
 use Rattle.lines.specs.declared.Figures.{Figures}

@@ -1,6 +1,5 @@
 -- A table of cells as a fund: a row of fourteen columns for each group, by its place, and a row 0 that is unused.
 -- Columns 0 to 12 are the tiers; column 13 is what has no limit and is no tier.
-use mathlib.Core.Bool.{Bool}
 use mathlib.Core.List.{List, [], _∷_}
 use Prim.Native.Nat.{ℕ, _*_}
 use lib.ListN.{take, drop}
@@ -61,6 +60,10 @@ tierLine group t =
       excess = byTier (group .excess) t;
     }
 
--- that line, and none where the exposure is 0
+-- a line, and none where its exposure is 0
+abbrev pub shown : Line → List Line
+shown line = if 0 <? line .exposure then line ∷ [] else []
+
+-- the line of a tier out of a group's arrays, and none where the exposure is 0
 unfoldable pub tierLines : Group → ℕ → List Line
-tierLines group t = if 0 <? byTier (group .exposures) t then tierLine group t ∷ [] else []
+tierLines group t = shown (tierLine group t)

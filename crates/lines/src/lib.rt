@@ -7,10 +7,10 @@ ghost use mathlib.Core.List.{_++_, _∷_, []};
 ghost use Prim.Native.Nat.{ℕ, _+_, _*_, _-_, _≤_, _<_, _^_};
 ghost use lib.ListN.{length, getD, drop};
 ghost use Rattle.words.specs.Words.{sum, eachOf};
-ghost use Rattle.wire.specs.Bytes.{bytes16, bytes64, placed};
+ghost use Rattle.wire.specs.Bytes.{bytes64, placed};
 ghost use Rattle.cascade.specs.Cascade.{tiers, byTier, byLimit, ranked};
 ghost use Rattle.figures.specs.Report.{headSize, lineSize, joined, lineBytes, headBytes, linesOf, groupExcess, report};
-ghost use Rattle.lines.specs.Table.{columns, row, setOf, tableFund, linesFund, tierLines};
+ghost use Rattle.lines.specs.Table.{columns, row, setOf, tableFund, linesFund, shown, tierLines};
 ghost use Rattle.lines.specs.Promise.{Counted, Table, Ready, groupBytes, GroupPut};
 
 const COLUMNS: usize = 14;
@@ -107,24 +107,14 @@ fn put_head(d: &mut [u8], head: Head)
     );
 }
 
-// The line of tier t, where its exposure is above 0; the place behind it.
-fn put_tier(d: &mut [u8], at: usize, group: Group, t: usize) -> usize
-    requires { ⌜ (t < tiers) × (at + length (joined (tierLines group t)) ≤ length (now d)) ⌝ }
-    ensures { λ r. ⌜ (r ≡ at + length (joined (tierLines group t))) × (now (d .exit) ≡ placed (now (d .entry)) at (joined (tierLines group t))) ⌝ }
+// A line, where its exposure is above 0; the place behind it.
+fn put_shown(d: &mut [u8], at: usize, line: Line) -> usize
+    requires { ⌜ at + length (joined (shown line)) ≤ length (now d) ⌝ }
+    ensures { λ r. ⌜ (r ≡ at + length (joined (shown line))) × (now (d .exit) ≡ placed (now (d .entry)) at (joined (shown line))) ⌝ }
 {
-    let exposure = group.exposures[t];
-    if exposure == 0 {
+    if line.exposure == 0 {
         return at;
     }
-    let line = Line {
-        top: group.top,
-        tier: t as u8,
-        tiers: group.tiers,
-        exposure,
-        limit: group.limits[t],
-        left: group.left[t],
-        excess: group.excess[t],
-    };
     put_line(d, at, line);
     at + LINE
 }
@@ -134,10 +124,24 @@ fn put_tiers(d: &mut [u8], at: usize, group: Group, ranking: [usize; TIERS]) -> 
     requires { ⌜ ((i : ℕ) → i < tiers → getD ranking i 0 < tiers) × (at + length (joined (eachOf (tierLines group) ranking)) ≤ length (now d)) ⌝ }
     ensures { λ r. ⌜ (r ≡ at + length (joined (eachOf (tierLines group) ranking))) × (now (d .exit) ≡ placed (now (d .entry)) at (joined (eachOf (tierLines group) ranking))) ⌝ }
 {
+    let limits = group.limits;
+    let exposures = group.exposures;
+    let left = group.left;
+    let excess = group.excess;
     let mut place = at;
     let mut i = 0;
     while i < TIERS {
-        place = put_tier(d, place, group, ranking[i]);
+        let t = ranking[i];
+        let line = Line {
+            top: group.top,
+            tier: t as u8,
+            tiers: group.tiers,
+            exposure: exposures[t],
+            limit: limits[t],
+            left: left[t],
+            excess: excess[t],
+        };
+        place = put_shown(d, place, line);
         i += 1;
     }
     place

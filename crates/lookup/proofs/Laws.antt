@@ -1,6 +1,6 @@
 -- A tier depends on the kind of an exposure and the class of its counterparty alone, but for reinsurance of one that isn't graded.
-use mathlib.Core.Path.{_≡_, refl, sym, ap, _∙_}
-use mathlib.Core.Bool.{Bool, true, false, not, _&&_, _||_}
+use mathlib.Core.Path.{_≡_, refl, sym}
+use mathlib.Core.Bool.{Bool, true, false, not, _&&_}
 use Prim.Native.Nat.{ℕ, _+_, _*_, _/_, _%_, _≤_, _<_}
 use native.Mathlib.Omega.{arith}
 use lib.Dec.{eqb}
@@ -13,7 +13,7 @@ use Rattle.book.specs.declared.Counterparty.{Counterparty}
 use Rattle.book.specs.Records.{kindOf}
 use Rattle.book.specs.Fields.{kindNumber, graded}
 use Rattle.exposure.specs.declared.Exposure.{Exposure}
-use Rattle.exposure.specs.Tier.{tierBy, lowerTier, reinsuranceTier, gradedTier, ungradedTier}
+use Rattle.exposure.specs.Tier.{tierBy, lowerTier, reinsuranceTier, gradedTier}
 use Rattle.lookup.specs.Class.{classOf, ofClass, ofKind, listedTier}
 
 pub kind-le : (k : Kind) → kindNumber k ≤ 4

@@ -2,7 +2,6 @@
 --   classOf ofClass       a class: kind, whether graded, and flags; a counterparty of a class
 --   ofKind listedTier     an exposure of a kind; the entry of a kind and a class
 --   Listed                such a table
-use mathlib.Core.Bool.{Bool, true, false}
 use mathlib.Core.List.{List}
 use mathlib.Core.Path.{_≡_}
 use lib.ListN.{length, getD}

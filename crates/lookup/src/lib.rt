@@ -3,7 +3,7 @@ use book::Counterparty;
 use exposure::Exposure;
 use exposure::choice;
 ghost use mathlib.Core.Path.{_≡_};
-ghost use Prim.Native.Nat.{ℕ, _+_, _*_, _≤_, _<_};
+ghost use Prim.Native.Nat.{_<_};
 ghost use Rattle.exposure.specs.Tier.{tierBy};
 ghost use Rattle.lookup.specs.Class.{classOf, Listed};
 

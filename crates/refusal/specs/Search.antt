@@ -1,12 +1,11 @@
 -- A search for the first bad record, place by place, for any test: search-starts, search-on (a good one), search-finds (a bad one), search-ends.
 use mathlib.Core.Bool.{Bool, true, false}
-use mathlib.Core.Path.{_≡_, refl, sym, _∙_}
-use Prim.Native.Nat.{ℕ, zero, suc, _+_, _-_, _≤_, _<_}
+use mathlib.Core.Path.{_≡_}
+use Prim.Native.Nat.{ℕ, suc, _+_, _-_, _≤_, _<_}
 use native.Mathlib.Omega.{arith}
 use Rattle.refusal.specs.declared.Refusal.{Refusal}
-use Rattle.refusal.specs.declared.Checked.{Checked}
 use Rattle.refusal.specs.declared.Checked.the-variants.{Fine, Bad}
-use Rattle.refusal.specs.Chain.{refuse_unless_, _andThen_, firstBad, refuseEach}
+use Rattle.refusal.specs.Chain.{firstBad, refuseEach}
 
 -- no record before place p of n is bad
 pub record Searching (why : ℕ → Refusal) (good : ℕ → Bool) (n p : ℕ) : Type 0 where

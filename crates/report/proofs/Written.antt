@@ -1,14 +1,12 @@
 -- The report that was written out of the tables is that of the definitions, and demand 3 holds of its bytes.
-use mathlib.Core.List.{List, _++_, map}
+use mathlib.Core.List.{List, _++_}
 use mathlib.Core.Path.{_≡_, refl, sym, ap, ap₂, _∙_}
-use Prim.Native.Nat.{ℕ, _+_, _*_, _-_, _≤_, _<_}
+use Prim.Native.Nat.{ℕ, _+_, _*_, _≤_, _<_}
 use native.Mathlib.Omega.{arith}
-use lib.ListN.{length, getD, take, drop, length-map}
-use lib.Seq.{length-take-le}
-use Rattle.words.specs.Words.{sum, countFrom}
-use Rattle.words.specs.Sums.{sum-same, length-count, count-at}
-use Rattle.wire.specs.Bytes.{M, placed}
-use Rattle.wire.proofs.Laws.{read-in}
+use lib.ListN.{length, drop}
+use Rattle.words.specs.Words.{sum}
+use Rattle.words.specs.Sums.{sum-same}
+use Rattle.wire.specs.Bytes.{M}
 use Rattle.refusal.specs.declared.Checked.the-variants.{Fine, Bad}
 use Rattle.refusal.specs.declared.Answer.the-variants.{Report}
 use Rattle.schedule.specs.Schedule.{scheduleOf}
@@ -30,15 +28,16 @@ use Rattle.figures.proofs.Agree.{Same, report-same}
 use Rattle.figures.proofs.Size.{report-long}
 use Rattle.figures.proofs.Least.{least-cuts}
 use Rattle.lines.specs.declared.Figures.{Figures}
-use Rattle.lines.specs.Table.{row, setOf, tableFund}
+use Rattle.lines.specs.Table.{row, tableFund}
 use Rattle.lines.specs.Promise.{allExposures, Counted, Table, Ready}
 use Rattle.lines.proofs.Rows.{row-at}
+use Rattle.lines.proofs.Counting.{set-each}
 use Rattle.lines.proofs.Whole.{lines-few}
 use Rattle.report.specs.declared.Rated.{Rated}
-use Rattle.report.specs.Figures.{limitsOf, limit, fundOf}
-use Rattle.report.specs.Answer.{fundIn, reportOf, answerOf, Answered}
+use Rattle.report.specs.Figures.{limit, fundOf}
+use Rattle.report.specs.Answer.{fundIn, reportOf, Answered}
 use Rattle.report.specs.Stages.{Passed, RatedAs}
-use Rattle.report.proofs.Chain.{short, fine}
+use Rattle.report.proofs.Chain.{fine}
 
 ordered : (schedule book : List ℕ) → Ordered (fundIn schedule book .order) (fundIn schedule book .limit)
 unfolding fundIn fundOf
@@ -49,17 +48,6 @@ report-cuts : (schedule book more : List ℕ) → LeastCuts (fundIn schedule boo
 unfolding reportOf
 report-cuts schedule book more = least-cuts (fundIn schedule book) more (ordered schedule book)
 
--- the sets that were counted, by place
-sets-each : {cells before after : List ℕ} {groups n : ℕ} → Counted cells groups before after n → groups < length before → (g : ℕ) → 1 ≤ g → g ≤ groups → getD after g 0 ≡ setOf (row cells g)
-sets-each {cells} {before} {after} {groups} k l g h i =
-    let f : ℕ → ℕ = λ u. setOf (row cells u) in
-    let vs = map f (countFrom 1 groups) in
-    let e : 1 + (g - 1) ≡ g = omega arith in
-    let m : length vs ≡ groups = length-map (countFrom 1 groups) f ∙ length-count 1 groups in
-    ap (λ (u : List ℕ). getD u g 0) (k .sets) ∙ ap (λ (u : ℕ). getD (placed before 1 vs) u 0) (sym e)
-    ∙ read-in (take 1 before) vs (drop (1 + length vs) before) 1 (length-take-le 1 before (omega arith)) (g - 1) (omega arith)
-    ∙ count-at f 1 groups (g - 1) (omega arith) ∙ ap f e
-
 module _ {book cells a3 : List ℕ} {sums : Sums} (t : Totals book cells a3 sums) where
   -- a group's row of the table is its exposures
   row-is : (g u : ℕ) → u < tiers → byTier (row cells g) u ≡ exposureOf (bookOf book) g u
@@ -68,7 +56,7 @@ module _ {book cells a3 : List ℕ} {sums : Sums} (t : Totals book cells a3 sums
   pub amounts : Accepted book → (groups : ℕ) → allExposures cells groups ≤ 900 * M
   amounts acc groups =
       let e = sum-same (λ k. sum (byTier (row cells (k + 1))) tiers) (λ k. sum (exposureOf (bookOf book) (k + 1)) tiers) groups
-                  (λ k _. sum-same (byTier (row cells (k + 1))) (exposureOf (bookOf book) (k + 1)) tiers (row-is (k + 1))) in
+      (λ k _. sum-same (byTier (row cells (k + 1))) (exposureOf (bookOf book) (k + 1)) tiers (row-is (k + 1))) in
       omega (arith, e, whole-le book acc tiers groups)
 
   module _ {schedule : List ℕ} {r : Rated} (d : RatedAs schedule book r) {c : ℕ} (e : c ≡ C book) where
@@ -117,7 +105,7 @@ module _ {book cells a3 : List ℕ} {sums : Sums} (t : Totals book cells a3 sums
     ready acc k l q h i =
         let m = k .lines (r .limits) (r .figures) in
         record {
-          table = record { few = omega (arith, acc .counterparties); ranks = d .ranking; rows = h; places = omega arith; each = sets-each k l; amounts = amounts acc c };
+          table = record { few = omega (arith, acc .counterparties); ranks = d .ranking; rows = h; places = omega arith; each = set-each cells c _ _ _ k l; amounts = amounts acc c };
           lines = m;
           a3 = d .a3-within;
           fits = omega (arith, report-long written, m);

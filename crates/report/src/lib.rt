@@ -141,23 +141,43 @@ fn small(schedule: &[u8], book: &[u8], c: usize, n: usize, report: &mut [u8]) ->
     let mut a3 = [0u64; 238];
     let mut sets = [0u16; 17];
     with_tables(
-        schedule, book, c, n, &mut tops, &mut nets, &mut caps, &mut cells, &mut a3, &mut sets, report,
+        schedule,
+        book,
+        c,
+        n,
+        &mut tops,
+        &mut nets,
+        &mut caps,
+        &mut cells,
+        &mut a3,
+        &mut sets,
+        report,
     )
 }
 
-// In tables for up to 128 counterparties and 256 assets.
+// In tables for up to 128 counterparties and 512 assets.
 fn medium(schedule: &[u8], book: &[u8], c: usize, n: usize, report: &mut [u8]) -> Answer
-    requires { ⌜ (Passed (now schedule) (now book)) × (c ≡ C (now book)) × (n ≡ N (now book)) × (c ≤ 128) × (n ≤ 256) ⌝ }
+    requires { ⌜ (Passed (now schedule) (now book)) × (c ≡ C (now book)) × (n ≡ N (now book)) × (c ≤ 128) × (n ≤ 512) ⌝ }
     ensures { λ r. ⌜ Answered (now (schedule .entry)) (now (book .entry)) (now (report .entry)) (now (report .exit)) r ⌝ }
 {
     let mut tops = [0usize; 129];
-    let mut nets = [0u64; 257];
-    let mut caps = [0u64; 257];
+    let mut nets = [0u64; 513];
+    let mut caps = [0u64; 513];
     let mut cells = [0u64; 1806];
     let mut a3 = [0u64; 1806];
     let mut sets = [0u16; 129];
     with_tables(
-        schedule, book, c, n, &mut tops, &mut nets, &mut caps, &mut cells, &mut a3, &mut sets, report,
+        schedule,
+        book,
+        c,
+        n,
+        &mut tops,
+        &mut nets,
+        &mut caps,
+        &mut cells,
+        &mut a3,
+        &mut sets,
+        report,
     )
 }
 
@@ -173,7 +193,17 @@ fn large(schedule: &[u8], book: &[u8], c: usize, n: usize, report: &mut [u8]) ->
     let mut a3 = [0u64; 7014];
     let mut sets = [0u16; 501];
     with_tables(
-        schedule, book, c, n, &mut tops, &mut nets, &mut caps, &mut cells, &mut a3, &mut sets, report,
+        schedule,
+        book,
+        c,
+        n,
+        &mut tops,
+        &mut nets,
+        &mut caps,
+        &mut cells,
+        &mut a3,
+        &mut sets,
+        report,
     )
 }
 
@@ -187,7 +217,7 @@ fn accepted(schedule: &[u8], book: &[u8], report: &mut [u8]) -> Answer
     if (c <= 16) & (n <= 64) {
         return small(schedule, book, c, n, report);
     }
-    if (c <= 128) & (n <= 256) {
+    if (c <= 128) & (n <= 512) {
         return medium(schedule, book, c, n, report);
     }
     large(schedule, book, c, n, report)

@@ -4,7 +4,6 @@ use mathlib.Core.Path.{_≡_}
 use Prim.Native.Nat.{ℕ, _+_, _*_}
 use Rattle.wire.specs.Bytes.{u16At, u64At}
 use Rattle.limit.specs.declared.Row.{Row}
-use Rattle.schedule.specs.declared.Schedule.{Schedule}
 use Rattle.schedule.specs.Schedule.{rowAt, scheduleOf}
 
 pub row-by : (s : List ℕ) (n : ℕ) {rate second base fixed : ℕ}

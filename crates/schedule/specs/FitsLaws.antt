@@ -1,5 +1,5 @@
 -- A schedule that refusals 1 to 4 let pass fits: schedule-length, rates-fit.
-use mathlib.Core.Bool.{Bool, true}
+use mathlib.Core.Bool.{true}
 use mathlib.Core.List.{List, [], _∷_}
 use mathlib.Core.Path.{_≡_}
 use Prim.Native.Nat.{ℕ}
@@ -10,7 +10,6 @@ use Rattle.words.specs.Choice.{each-true}
 use Rattle.wire.specs.Bytes.{M, u16At}
 use Rattle.limit.specs.declared.Row.{Row}
 use Rattle.limit.specs.Bounds.{mostRate, RowFits}
-use Rattle.refusal.specs.declared.Checked.{Checked}
 use Rattle.refusal.specs.declared.Checked.the-variants.{Fine}
 use Rattle.refusal.specs.declared.Refusal.the-variants.{ScheduleLength, ScheduleMark, ScheduleVersion, ScheduleRates}
 use Rattle.refusal.specs.Chain.{refuse_unless_, _andThen_}

@@ -5,9 +5,8 @@
 --   mark rowBytes headBytes scheduleBytes    a schedule's bytes
 use mathlib.Core.List.{List, [], _∷_, _++_}
 use Prim.Native.Nat.{ℕ, _+_, _*_}
-use lib.ListN.{length}
 use Rattle.words.specs.Words.{eachOf}
-use Rattle.wire.specs.Bytes.{byteAt, u16At, u64At, bytes16, bytes64}
+use Rattle.wire.specs.Bytes.{u16At, u64At, bytes16, bytes64}
 use Rattle.limit.specs.declared.Row.{Row}
 use Rattle.schedule.specs.declared.Schedule.{Schedule}
 
@@ -66,7 +65,7 @@ published =
 abbrev pub mark : List ℕ
 mark = 65 ∷ 67 ∷ 76 ∷ 0 ∷ []
 
--- a row's 14 bytes
+-- a row's 14 bytes, as `rowAt` reads them
 unfoldable pub rowBytes : Row → List ℕ
 rowBytes r = bytes16 (r .rate) ++ bytes16 (r .second) ++ bytes16 (r .«base_rate») ++ bytes64 (r .fixed)
 
@@ -74,6 +73,6 @@ rowBytes r = bytes16 (r .rate) ++ bytes16 (r .second) ++ bytes16 (r .«base_rate
 unfoldable pub headBytes : Schedule → List ℕ
 headBytes s = mark ++ bytes16 1 ++ bytes16 (s .first) ++ bytes16 (s .second)
 
--- its 122 bytes: "then rows"
+-- a schedule's 122 bytes: "then rows"
 unfoldable pub scheduleBytes : Schedule → List ℕ
 scheduleBytes s = headBytes s ++ eachOf rowBytes (rowsOf s)

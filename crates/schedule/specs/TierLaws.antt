@@ -7,9 +7,8 @@ use lib.ListN.{length, getD}
 use Rattle.words.specs.Words.{All}
 use Rattle.words.specs.Sums.{all-at}
 use Rattle.wire.specs.Bytes.{M}
-use Rattle.limit.specs.declared.Row.{Row}
-use Rattle.limit.specs.Limit.{perMille, counted, limitOf}
-use Rattle.limit.specs.Bounds.{mostLimit, RowFits}
+use Rattle.limit.specs.Limit.{counted}
+use Rattle.limit.specs.Bounds.{mostLimit}
 use Rattle.limit.specs.BoundLaws.{limit-le}
 use Rattle.schedule.specs.declared.Schedule.{Schedule}
 use Rattle.schedule.specs.Tiers.{limits, a3LimitOf}

@@ -7,7 +7,7 @@ ghost use lib.ListN.{length};
 ghost use Rattle.book.specs.Records.{C, N};
 ghost use Rattle.book.specs.Accepted.{Accepted};
 ghost use Rattle.totals.specs.Totals.{Zeros};
-ghost use Rattle.sums.specs.Drawn.{Summed};
+ghost use Rattle.sums.specs.Drawn.{Summed, Filled};
 
 // The sums over the assets, and those over the exposures that no table holds.
 pub struct Drawn {
@@ -27,10 +27,12 @@ pub fn draw(
     a3: &mut [u64],
 ) -> Drawn
     requires { ⌜ (Accepted (now b)) × (c ≡ C (now b)) × (n ≡ N (now b)) × (c < length (now tops)) × (n < length (now nets)) × (n < length (now caps)) × (Zeros (now b) (now cells)) × (Zeros (now b) (now a3)) ⌝ }
-    ensures { λ r. ⌜ Summed (now (b .entry)) (now (cells .exit)) (now (a3 .exit)) r ⌝ }
+    ensures summed { λ r. ⌜ Summed (now (b .entry)) (now (cells .exit)) (now (a3 .exit)) r ⌝ }
+    ensures filled { λ r. ⌜ Filled (now (b .entry)) (now (tops .entry)) (now (nets .entry)) (now (caps .entry)) (now (tops .exit)) (now (nets .exit)) (now (caps .exit)) ⌝ }
 {
     groups::tops(b, c, tops);
     let values = fund::value(b, n, nets, caps);
-    let sums = totals::totals(nets, caps, tops, b, n, cells, a3);
+    let tiers = lookup::tiers();
+    let sums = totals::totals(nets, caps, tops, &tiers, b, n, cells, a3);
     Drawn { values, sums }
 }

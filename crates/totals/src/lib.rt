@@ -11,6 +11,7 @@ ghost use Rattle.book.specs.Records.{C, N};
 ghost use Rattle.book.specs.Accepted.{Accepted};
 ghost use Rattle.walk.specs.Walk.{Tables};
 ghost use Rattle.groups.specs.Tops.{Known};
+ghost use Rattle.lookup.specs.Class.{Listed};
 ghost use Rattle.totals.specs.Totals.{Posted, Totals, Zeros};
 
 // The columns of a group in a table of cells: its tiers, and what has no limit.
@@ -45,14 +46,14 @@ fn choose(t: bool, a: u64, b: u64) -> u64
 }
 
 // Where an exposure of the book is added.
-fn post(b: &[u8], tops: &[usize], e: Exposure) -> Posting
-    requires { ⌜ (Accepted (now b)) × (Known (now b) (C (now b)) (now tops)) × (0 < e .counterparty) × (e .counterparty ≤ C (now b)) ⌝ }
+fn post(b: &[u8], tops: &[usize], tiers: &[u8], e: Exposure) -> Posting
+    requires { ⌜ (Accepted (now b)) × (Known (now b) (C (now b)) (now tops)) × (0 < e .counterparty) × (e .counterparty ≤ C (now b)) × (e .kind < 12) × (Listed (now tiers)) ⌝ }
     ensures { λ r. ⌜ Posted (now (b .entry)) e r ⌝ }
 {
     let place = e.counterparty as usize;
     let amount = e.amount;
     let who = book::counterparty_at(b, place);
-    let t = tier::tier_of(e, who);
+    let t = lookup::tier(tiers, e, who);
     let group = tops[place];
     let life = book::is_kind(who, Kind::LifeCompany);
     let cell = COLUMNS * group + t as usize;
@@ -67,17 +68,18 @@ fn post(b: &[u8], tops: &[usize], e: Exposure) -> Posting
     }
 }
 
-// Every exposure of the book, added to its cell: one walk.
+// Every exposure of the book, added to its cell: one walk. An exposure of 0 adds nothing and is passed by.
 pub fn totals(
     nets: &[u64],
     caps: &[u64],
     tops: &[usize],
+    tiers: &[u8],
     b: &[u8],
     n: usize,
     cells: &mut [u64],
     a3: &mut [u64],
 ) -> Sums
-    requires { ⌜ (Accepted (now b)) × (Tables (now nets) (now caps) (now b)) × (Known (now b) (C (now b)) (now tops)) × (n ≡ N (now b)) × (Zeros (now b) (now cells)) × (Zeros (now b) (now a3)) ⌝ }
+    requires { ⌜ (Accepted (now b)) × (Tables (now nets) (now caps) (now b)) × (Known (now b) (C (now b)) (now tops)) × (n ≡ N (now b)) × (Zeros (now b) (now cells)) × (Zeros (now b) (now a3)) × (Listed (now tiers)) ⌝ }
     ensures { λ r. ⌜ Totals (now (b .entry)) (now (cells .exit)) (now (a3 .exit)) r ⌝ }
 {
     let mut w = 0;
@@ -93,7 +95,11 @@ pub fn totals(
         match walk::next(nets, caps, b, n, c) {
             Step::Item(e, d) => {
                 let amount = e.amount;
-                let p = post(b, tops, e);
+                if amount == 0 {
+                    c = d;
+                    continue;
+                }
+                let p = post(b, tops, tiers, e);
                 let cell = p.cell;
                 add(cells, cell, amount);
                 add(a3, cell, p.a3);

@@ -1,23 +1,23 @@
 -- What the steps of the walk do to what is still to come.
-use mathlib.Core.Path.{_≡_, refl, sym, ap, _∙_}
-use mathlib.Core.List.{List, [], _∷_, _++_}
+use mathlib.Core.Path.{_≡_, refl, _∙_}
+use mathlib.Core.List.{List, [], _∷_}
 use mathlib.Core.Bool.{Bool, true, false, _&&_}
-use Prim.Native.Nat.{ℕ, zero, suc, _+_, _*_, _-_, _≤_, _<_}
+use Prim.Native.Nat.{ℕ, suc, _+_, _-_, _≤_, _<_}
 use native.Mathlib.Nat.{add-zero}
 use native.Mathlib.Numerals.{add-one}
 use native.Mathlib.Omega.{arith}
-use lib.ListN.{length, getD}
+use lib.ListN.{getD}
 use lib.Dec.{eqb, ltb}
-use borrow.Author.Tests.{eq-eqb, eqb-true, eqb-false, ltb-true, ltb-false}
-use Rattle.words.specs.Words.{_=?_, sumOf, eachOf, if_then_else_}
+use borrow.Author.Tests.{eqb-false, ltb-false}
+use Rattle.words.specs.Words.{_=?_, sumOf, eachOf}
 use Rattle.words.specs.Choice.{if-le, not-both}
 use Rattle.book.specs.declared.Asset.{Asset}
 use Rattle.book.specs.declared.Mitigant.{Mitigant}
 use Rattle.book.specs.declared.Counterparty.{Counterparty}
-use Rattle.book.specs.Records.{C, N, K, counterpartyAt, assetAt, mitigantAt}
-use Rattle.book.specs.declared.Kind.the-variants.{Other, Bank, HomeGovernment, ProvincialGovernment, LifeCompany}
+use Rattle.book.specs.Records.{N, counterpartyAt, assetAt, mitigantAt}
+use Rattle.book.specs.declared.Kind.the-variants.{Bank, HomeGovernment, ProvincialGovernment}
 use Rattle.book.specs.Fields.{_is_, linked}
-use Rattle.book.specs.Book.{Holding, mitigantsFrom, holdingsFrom, bookOf}
+use Rattle.book.specs.Book.{mitigantsFrom, holdingsFrom, bookOf}
 use Rattle.book.specs.Accepted.{Accepted}
 use Rattle.book.specs.Check.{countsAdd}
 use Rattle.exposure.specs.declared.Exposure.{Exposure}

@@ -1,8 +1,14 @@
--- What a cursor has still to give.
+-- What a cursor over a book's exposures has still to give.
+--   after count      the exposures and the mitigants of the assets from a place on
+--   rest toCome      the same from a cursor on; restBy: by how many of the open asset's mitigants are left
+--   Ok               a cursor that stands in the book
+--   Gives Skips Stepped    what a step promises
+--   Opens Readied    an asset that may be opened; the cursor with its asset open
+--   Tables           nets, and what may be covered, by an asset's place
 use mathlib.Core.Path.{_≡_}
 use mathlib.Core.List.{List, [], _∷_, _++_}
-use mathlib.Core.Bool.{Bool, true, false}
-use Prim.Native.Nat.{ℕ, zero, suc, _+_, _*_, _-_, _≤_, _<_}
+use mathlib.Core.Bool.{false}
+use Prim.Native.Nat.{ℕ, zero, suc, _+_, _-_, _≤_, _<_}
 use lib.ListN.{length, getD}
 use Rattle.words.specs.Words.{sumOf, eachOf}
 use Rattle.book.specs.declared.Asset.{Asset}
@@ -24,6 +30,7 @@ after b place m more = eachOf (exposuresOf (bookOf b)) (holdingsFrom b place m m
 unfoldable pub count : List ℕ → ℕ → ℕ → ℕ → ℕ
 count b place m more = sumOf (λ (h : Holding). h .asset .count) (holdingsFrom b place m more)
 
+-- with no asset open, those of all assets from the cursor's on; else what is left of the open one, and those after it
 unfoldable pub restBy : List ℕ → Cursor → ℕ → List Exposure
 restBy b c zero = after b (c .asset) (c .mitigant) (N b + 1 - c .asset)
 restBy b c (suc m) =
@@ -39,6 +46,7 @@ unfoldable pub toCome : List ℕ → ℕ → ℕ → ℕ → ℕ
 toCome b place m zero = count b place m (N b + 1 - place)
 toCome b place m (suc left) = left + count b (place + 1) (m + left) (N b - place)
 
+-- the cursor stands at an asset of the book or behind the last, inside one only while it is open, and its mitigants are the book's
 pub record Ok (b : List ℕ) (c : Cursor) : Type 0 where
   pub started : 0 < c .asset
   pub within : c .asset ≤ N b + 1
@@ -75,6 +83,7 @@ pub record Readied (b : List ℕ) (c next : Cursor) : Type 0 where
   pub open-now : 0 < next .left
   pub asset : c .asset ≡ next .asset
 
+-- what is left is an exposure and then the rest; or the same, behind a linked asset; or nothing
 abbrev pub Stepped : List ℕ → Cursor → Step → Type 0
 Stepped b c (Item e next) = Gives b c e next
 Stepped b c (Linked next) = Skips b c next × (c .asset < next .asset)

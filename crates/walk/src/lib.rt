@@ -2,8 +2,7 @@
 use book::Asset;
 use exposure::Exposure;
 ghost use mathlib.Core.Path.{_≡_};
-ghost use Prim.Native.Nat.{ℕ, _+_, _*_, _-_, _≤_, _<_};
-ghost use lib.ListN.{length};
+ghost use Prim.Native.Nat.{_<_};
 ghost use Rattle.book.specs.Records.{N, assetAt};
 ghost use Rattle.book.specs.Accepted.{Accepted};
 ghost use Rattle.walk.specs.Walk.{Ok, Gives, Opens, Readied, Stepped, Tables};

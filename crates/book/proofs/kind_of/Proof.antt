@@ -1,5 +1,5 @@
 -- `kind_of`: each arm is a test of `kindOf`.
-use mathlib.Core.Path.{_≡_, sym, ap}
+use mathlib.Core.Path.{sym, ap}
 use borrow.Author.Tests.{ne-eqb}
 use Rattle.book.specs.Records.{kindOf}
 use Rattle.book.proofs.kind_of.Statement.{statement}

@@ -1,3 +1,4 @@
+-- `net_of`: value or stressed, offsets and deductions taken off, as `net` has it.
 use Rattle.exposure.specs.Values.{net}
 use borrow.Author.Needs.{needs}
 use Rattle.exposure.proofs.net_of.Statement.{statement}

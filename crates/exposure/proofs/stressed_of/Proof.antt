@@ -1,3 +1,4 @@
+-- `stressed_of`: the choice that `stressed` makes.
 use Rattle.exposure.specs.Values.{stressed}
 use borrow.Author.Needs.{needs}
 use Rattle.exposure.proofs.stressed_of.Statement.{statement}

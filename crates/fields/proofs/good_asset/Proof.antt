@@ -24,7 +24,7 @@ choose-requires c κs = search needs
 
 returns : tie.Need-returns
 unfolding goodAsset
-returns c = cc
+returns c = rw (c .choose .ensures, c .before .no-reinsurance-fields .ensures, c .before .before .reinsurance-fields-fit .ensures, c .before .before .before .is-reinsurance .ensures, c .before .before .before .before .amounts-within .ensures, c .before .before .before .before .before .in-book .ensures)
 
 pub good-asset-spec : {M : Type 1} → statement M
 good-asset-spec =

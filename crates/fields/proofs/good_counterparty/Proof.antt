@@ -39,7 +39,7 @@ shared-slice-read-result c = search needs
 
 returns : tie.Need-returns
 unfolding goodCounterparty
-returns c = cc
+returns c = rw (c .before .high-four .ensures, c .before .before .low-four .ensures, c .before .before .before .u16-at .ensures)
 
 pub good-counterparty-spec : {M : Type 1} → statement M
 good-counterparty-spec =

@@ -9,7 +9,7 @@ in-book-requires c κs = search needs
 
 returns : tie.Need-returns
 unfolding goodMitigant
-returns c = cc
+returns c = rw (c .before .in-book .ensures)
 
 pub good-mitigant-spec : {M : Type 1} → statement M
 good-mitigant-spec = tie.close (tie.spec in-book-requires returns)

@@ -7,7 +7,7 @@ does-rise-requires : tie.Need-does-rise-requires
 does-rise-requires c κs = search needs
 
 returns : tie.Need-returns
-returns c = cc
+returns c = rw (c .before .before .before .before .does-rise .ensures)
 
 pub no-reinsurance-fields-spec : {M : Type 1} → statement M
 no-reinsurance-fields-spec = tie.close (tie.spec does-rise-requires returns)

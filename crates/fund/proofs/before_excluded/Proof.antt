@@ -1,3 +1,4 @@
+-- `before_excluded`: the sum fits, and is `beforeExcluded` by the sums required.
 use denote.Ref.{now}
 use native.Mathlib.Omega.{arith}
 use Rattle.exposure.specs.Values.{beforeExcluded}

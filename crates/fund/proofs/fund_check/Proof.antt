@@ -1,3 +1,4 @@
+-- `fund_check`: the chain of `fundCheck`.
 use Rattle.exposure.specs.Values.{fundCheck}
 use Rattle.book.specs.Book.{bookOf}
 use borrow.Author.Needs.{needs}

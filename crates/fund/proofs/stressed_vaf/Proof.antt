@@ -1,3 +1,4 @@
+-- `stressed_vaf`: `VAF′` by `before_excluded`.
 use Rattle.exposure.specs.Values.{VAF′}
 use Rattle.book.specs.Book.{bookOf}
 use borrow.Author.Needs.{needs}

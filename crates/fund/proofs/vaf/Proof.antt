@@ -1,3 +1,4 @@
+-- `vaf`: `VAF` by the sums required.
 use Rattle.exposure.specs.Values.{VAF}
 use Rattle.book.specs.Book.{bookOf}
 use borrow.Author.Needs.{needs}

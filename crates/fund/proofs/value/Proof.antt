@@ -1,3 +1,4 @@
+-- `value`. The loop's invariant: both tables are filled and all sums taken below the place. The measure: the places left.
 use mathlib.Core.Path.{_≡_, refl}
 use Prim.Native.Nat.{_+_, _-_}
 use native.Mathlib.Omega.{arith}
@@ -9,7 +10,7 @@ use Rattle.fund.proofs.value.Tie as tie
 
 abbrev Inv-loop : tie.InvT-loop
 Inv-loop b n nets₀ caps₀ v₀ place₀ nets caps v place =
-    Filled b nets caps v place × (length nets ≡ length nets₀) × (length caps ≡ length caps₀)
+    Filled b nets₀ caps₀ nets caps v place × (length nets ≡ length nets₀) × (length caps ≡ length caps₀)
 
 abbrev μ-loop : tie.MeasureT-loop
 μ-loop b n nets₀ caps₀ v₀ place₀ nets caps v place = n + 1 - place

@@ -1,3 +1,4 @@
+-- `worth_of`: each amount by its callee's promise, put together by `worths`.
 use native.Mathlib.Omega.{arith}
 use Rattle.fund.proofs.Worths.{worths}
 use borrow.Author.Needs.{needs}

@@ -7,7 +7,6 @@ use denote.Ref.{now}
 use lib.Count.{ones}
 use lib.ListN.{length, length-set}
 use Rattle.cascade.specs.Cascade.{tiers}
-use Rattle.lines.specs.Table.{setOf}
 use Rattle.lines.proofs.Putting.{Putting, put-start, put-piece, put-end}
 use Rattle.lines.proofs.Groups.{below, below-none, below-more, below-all}
 use Rattle.lines.proofs.Counting.{set-same, ones-few, onesAt, setAt, allSets, setsFrom, sets-long, sets-first, sets-step, sets-end, lines-counted, set-placed}

@@ -1,8 +1,8 @@
 -- `put_four` meets its contract: four numbers, each placed behind the others.
 use mathlib.Core.Path.{refl}
-use mathlib.Core.List.{_++_, _∷_, []}
+use mathlib.Core.List.{_++_}
 use native.Mathlib.Omega.{arith}
-use Rattle.wire.specs.Bytes.{bytes16, bytes64}
+use Rattle.wire.specs.Bytes.{bytes64}
 use Rattle.wire.proofs.Laws.{then-placed}
 use borrow.Author.Needs.{needs}
 use Rattle.lines.proofs.put_four.Statement.{statement}

@@ -1,5 +1,5 @@
 -- `put_group` meets its contract: no line where the set is empty, else the lines of the cascade's arrays.
-use mathlib.Core.Path.{_≡_, sym, _∙_}
+use mathlib.Core.Path.{sym, _∙_}
 use native.Mathlib.Omega.{arith}
 use denote.Ref.{now}
 use Rattle.cascade.specs.Cascade.{tiers, byTier, byLimit}

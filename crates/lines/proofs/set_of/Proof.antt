@@ -1,7 +1,7 @@
 -- `set_of` meets its contract. The loop's invariant: the bit of tier t, and the set of the tiers below it.
 use mathlib.Core.Path.{_≡_, refl, _∙_}
 use mathlib.Core.Logic.{⊎-elim}
-use Prim.Native.Nat.{ℕ, _-_, _^_, _≤_}
+use Prim.Native.Nat.{_-_, _^_, _≤_}
 use native.Mathlib.Omega.{arith}
 use Rattle.cascade.specs.Cascade.{tiers}
 use Rattle.lines.proofs.Rows.{setTo, set-lt, set-none, set-with, set-without, set-whole, bit-next, bit-small}

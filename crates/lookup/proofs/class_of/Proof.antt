@@ -1,3 +1,4 @@
+-- `class_of`: the sum of `classOf`, below 80.
 use Rattle.lookup.proofs.Laws.{classed, classed-small}
 use borrow.Author.Needs.{needs}
 use Rattle.lookup.proofs.class_of.Statement.{statement}

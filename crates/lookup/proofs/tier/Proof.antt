@@ -1,4 +1,5 @@
-use mathlib.Core.Path.{_≡_, _∙_}
+-- `tier`: the table's entry, or by entry and months where reinsurance is of one that isn't graded.
+use mathlib.Core.Path.{_∙_}
 use Prim.Native.Nat.{_+_, _*_}
 use native.Mathlib.Omega.{arith}
 use Rattle.lookup.proofs.Laws.{listed-is, aged-is}

@@ -1,4 +1,5 @@
-use mathlib.Core.Path.{_≡_, refl}
+-- `tiers`: all 960 entries computed.
+use mathlib.Core.Path.{refl}
 use mathlib.Core.List.{List, [], _∷_}
 use mathlib.Core.Bool.{Bool}
 use Prim.Native.Nat.{ℕ}

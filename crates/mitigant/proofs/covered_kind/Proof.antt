@@ -1,3 +1,4 @@
+-- `covered_kind`: the choices of `coveredKind`.
 use Rattle.exposure.specs.Parts.{coveredKind}
 use borrow.Author.Needs.{needs}
 use Rattle.mitigant.proofs.covered_kind.Statement.{statement}

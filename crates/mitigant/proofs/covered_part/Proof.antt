@@ -1,3 +1,4 @@
+-- `covered_part`: the fields of `coveredPart`.
 use Rattle.exposure.specs.Parts.{coveredPart}
 use borrow.Author.Needs.{needs}
 use Rattle.mitigant.proofs.covered_part.Statement.{statement}

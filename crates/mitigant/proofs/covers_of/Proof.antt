@@ -1,3 +1,4 @@
+-- `covers_of`: the lesser of two amounts where the mitigant counts, as `covers` has it.
 use Rattle.exposure.specs.Parts.{covers}
 use borrow.Author.Needs.{needs}
 use Rattle.mitigant.proofs.covers_of.Statement.{statement}

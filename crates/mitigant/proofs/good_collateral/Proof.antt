@@ -1,3 +1,4 @@
+-- `good_collateral`: the tests of `goodCollateral`.
 use Rattle.exposure.specs.Parts.{goodCollateral}
 use borrow.Author.Needs.{needs}
 use Rattle.mitigant.proofs.good_collateral.Statement.{statement}

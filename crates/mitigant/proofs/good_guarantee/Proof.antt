@@ -1,3 +1,4 @@
+-- `good_guarantee`: the tests of `goodGuarantee`.
 use Rattle.exposure.specs.Parts.{goodGuarantee}
 use borrow.Author.Needs.{needs}
 use Rattle.mitigant.proofs.good_guarantee.Statement.{statement}

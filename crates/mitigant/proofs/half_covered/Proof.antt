@@ -1,3 +1,4 @@
+-- `half_covered`: the tests of `halfCovered`.
 use Rattle.exposure.specs.Parts.{halfCovered}
 use borrow.Author.Needs.{needs}
 use Rattle.mitigant.proofs.half_covered.Statement.{statement}

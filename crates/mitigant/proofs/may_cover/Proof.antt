@@ -1,3 +1,4 @@
+-- `may_cover`: half of the net, or all of it.
 use borrow.Author.Needs.{needs}
 use Rattle.mitigant.proofs.may_cover.Statement.{statement}
 use Rattle.mitigant.proofs.may_cover.Tie as tie

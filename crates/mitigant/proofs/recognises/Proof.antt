@@ -1,3 +1,4 @@
+-- `recognises`: by the form, as `recognised` has it.
 use Rattle.exposure.specs.Parts.{recognised}
 use borrow.Author.Needs.{needs}
 use Rattle.mitigant.proofs.recognises.Statement.{statement}

@@ -1,3 +1,4 @@
+-- `remainder_of`: the fields of `remainder`.
 use Rattle.exposure.specs.Parts.{remainder}
 use Rattle.mitigant.proofs.remainder_of.Statement.{statement}
 use Rattle.mitigant.proofs.remainder_of.Tie as tie

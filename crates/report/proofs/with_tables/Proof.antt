@@ -12,7 +12,7 @@ draw-requires : tie.Need-draw-requires
 draw-requires c κs = let s = c .before .before .before .before .before .before .before .before .before .before .before .before .before .before in (taken (s .pre .0), s .pre .1, s .pre .2, s .pre .3, s .pre .4, s .pre .5, s .pre .6, s .pre .7)
 
 fund-check-requires : tie.Need-fund-check-requires
-fund-check-requires c κs = let s = c .before .before .before .before .before .before .before .before .before .before .before .before .before .before .before .before .before .before .before .before .before .before .before .before .before .before in (taken (s .pre .0), c .before .before .before .before .before .before .before .before .before .before .before .draw .ensures .values)
+fund-check-requires c κs = let s = c .before .before .before .before .before .before .before .before .before .before .before .before .before .before .before .before .before .before .before .before .before .before .before .before .before .before in (taken (s .pre .0), c .before .before .before .before .before .before .before .before .before .before .before .draw .ensures .0 .values)
 
 enum-known-found : tie.Need-enum-known-found
 enum-known-found c = search needs
@@ -24,7 +24,7 @@ finish-requires : tie.Need-finish-requires
 finish-requires c κs =
     let s = c .before .before .before .before .before .before .before .before .before .before .before .before .before .before .before .before .before .before .before .before .before .before .before .before .before .before .before .before .before .before .before .before .before in
     let e = s .pre .1 in
-    (s .pre .0, sym (c .before .before .before .before .before .before .fund-check .ensures) ∙ c .before .before .before .before .enum-told .given .1, s .pre .1, c .before .before .before .before .before .before .before .before .before .before .before .before .before .before .before .before .before .before .draw .ensures, omega (arith, c .before .before .before .before .before .before .before .before .before .before .before .cells .given, s .pre .6 .size), omega (arith, c .before .before .before .before .before .before .before .before .before .a3 .given, s .pre .7 .size), s .pre .8)
+    (s .pre .0, sym (c .before .before .before .before .before .before .fund-check .ensures) ∙ c .before .before .before .before .enum-told .given .1, s .pre .1, c .before .before .before .before .before .before .before .before .before .before .before .before .before .before .before .before .before .before .draw .ensures .0, omega (arith, c .before .before .before .before .before .before .before .before .before .before .before .cells .given, s .pre .6 .size), omega (arith, c .before .before .before .before .before .before .before .before .before .a3 .given, s .pre .7 .size), s .pre .8)
 
 same-length : tie.Need-same-length
 same-length c = search needs

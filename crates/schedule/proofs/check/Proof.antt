@@ -1,5 +1,4 @@
 -- `schedule::check` meets its contract: the length first, and then the other checks.
-use mathlib.Core.Path.{_∙_}
 use borrow.Author.Tests.{eq-eqb, ne-eqb}
 use Rattle.schedule.specs.Check.{scheduleCheck}
 use borrow.Author.Needs.{needs}

@@ -1,3 +1,4 @@
+-- `by_months`: the steps of `byMonths`.
 use borrow.Author.Needs.{needs}
 use Rattle.tier.proofs.by_months.Statement.{statement}
 use Rattle.tier.proofs.by_months.Tie as tie

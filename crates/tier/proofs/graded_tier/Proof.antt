@@ -1,3 +1,4 @@
+-- `graded_tier`: the choices of `gradedTier`.
 use Rattle.exposure.specs.Tier.{gradedTier}
 use borrow.Author.Needs.{needs}
 use Rattle.tier.proofs.graded_tier.Statement.{statement}

@@ -1,3 +1,4 @@
+-- `lower_tier`: the choices of `lowerTier`.
 use Rattle.exposure.specs.Tier.{lowerTier}
 use borrow.Author.Needs.{needs}
 use Rattle.tier.proofs.lower_tier.Statement.{statement}

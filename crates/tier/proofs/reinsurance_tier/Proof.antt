@@ -1,3 +1,4 @@
+-- `reinsurance_tier`: graded or not, as `reinsuranceTier` has it.
 use Rattle.exposure.specs.Tier.{reinsuranceTier}
 use borrow.Author.Needs.{needs}
 use Rattle.tier.proofs.reinsurance_tier.Statement.{statement}

@@ -1,3 +1,4 @@
+-- `tier_of`: the choices of `tierBy`.
 use Rattle.exposure.specs.Tier.{tierBy}
 use borrow.Author.Needs.{needs}
 use Rattle.tier.proofs.tier_of.Statement.{statement}

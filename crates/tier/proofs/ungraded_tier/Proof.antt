@@ -1,3 +1,4 @@
+-- `ungraded_tier`: by the entry, as `ungradedTier` has it.
 use Rattle.exposure.specs.Tier.{ungradedTier}
 use borrow.Author.Needs.{needs}
 use Rattle.tier.proofs.ungraded_tier.Statement.{statement}

@@ -1,6 +1,7 @@
+-- `next`: the end, a linked asset passed, or the next exposure of an asset that is open.
 use denote.Ref.{now}
 use native.Mathlib.Omega.{arith}
-use mathlib.Core.Path.{_≡_, refl, sym, ap, _∙_}
+use mathlib.Core.Path.{sym, _∙_}
 use borrow.Author.Tests.{eq-eqb, eqb-true, ltb-true}
 use lib.Dec.{eqb, ltb}
 use Rattle.words.specs.Choice.{both, not-both}

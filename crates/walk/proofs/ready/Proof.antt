@@ -1,3 +1,4 @@
+-- `ready`: an asset opened leaves what is still to come as it is.
 use denote.Ref.{now}
 use Rattle.walk.proofs.Laws.{opens}
 use borrow.Author.Needs.{needs}

@@ -1,3 +1,4 @@
+-- `take`: the remainder where no mitigant is left, else the covered part of the next one.
 use denote.Ref.{now}
 use native.Mathlib.Omega.{arith}
 use Rattle.walk.proofs.Laws.{more-come, part-le, gives-last, gives-more}

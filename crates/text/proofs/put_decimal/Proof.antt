@@ -1,0 +1,52 @@
+-- `text::put_decimal` meets its contract: what `io::decimal` spells, copied.
+use borrow.Author.Needs.{needs}
+use mathlib.Core.Path.{_≡_, subst, _∙_}
+use mathlib.Core.List.{List}
+use Prim.Native.Nat.{ℕ}
+use native.Mathlib.Omega.{arith}
+use lib.ListN.{take}
+use Rattle.text.specs.Text.{decimal}
+use Rattle.text.specs.Written.{Written}
+use Rattle.text.proofs.Laws.{few, decimal-is}
+use Rattle.text.proofs.put_decimal.Statement.{statement}
+use Rattle.text.proofs.put_decimal.Tie as tie
+
+decimal-requires : tie.Need-decimal-requires
+decimal-requires c κs = search needs
+
+array-share-prefix-digits : tie.Need-array-share-prefix-digits
+array-share-prefix-digits c = search needs
+
+slice-aggregate-put : tie.Need-slice-aggregate-put
+slice-aggregate-put c = search needs
+
+put-requires : tie.Need-put-requires
+put-requires c κs =
+    let d = c .before .before .decimal in
+    let s = c .before .before .before .before .before in
+    omega (arith, d .ensures .0 .1, few (s .args .n) (d .result) (s .fits .n .fits) (d .ensures .1 .0), s .pre)
+
+same-length : tie.Need-same-length
+same-length c = search needs
+
+returns : tie.Need-returns
+returns c =
+    let p = c .before .before .put in
+    let d = c .before .before .before .before .before .decimal in
+    let s = c .before .before .before .before .before .before .before .before in
+    let e : take (d .result) (d .last .1 .0) ≡ decimal (s .args .n) =
+    d .ensures .1 .1 ∙ decimal-is (s .args .n) (d .result) (s .fits .n .fits) (d .ensures .1 .0) in (
+      subst (λ (x : List ℕ). Written (s .args .out .now) (s .args .at) x (p .last .0) (p .result)) e (p .ensures),
+      omega (arith, p .ensures .place, d .ensures .0 .1, few (s .args .n) (d .result) (s .fits .n .fits) (d .ensures .1 .0)),
+    )
+
+pub put-decimal-spec : {M : Type 1} → statement M
+put-decimal-spec =
+    tie.close
+    (tie.spec
+    decimal-requires
+    array-share-prefix-digits
+    slice-aggregate-put
+    put-requires
+    same-length
+    returns)

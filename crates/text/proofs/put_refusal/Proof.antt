@@ -1,0 +1,46 @@
+-- `text::put_refusal` meets its contract: the word, the number and the place.
+use borrow.Author.Needs.{needs}
+use native.Mathlib.Omega.{arith}
+use Rattle.text.specs.Text.{ascii, refusedText}
+use Rattle.text.proofs.Laws.{then-number}
+use Rattle.text.proofs.put_refusal.Statement.{statement}
+use Rattle.text.proofs.put_refusal.Tie as tie
+
+slice-aggregate-put : tie.Need-slice-aggregate-put
+slice-aggregate-put c = search needs
+
+put-requires : tie.Need-put-requires
+put-requires c κs = search needs
+
+put-number-requires : tie.Need-put-number-requires
+put-number-requires c κs = search needs
+
+put-number-requires-2 : tie.Need-put-number-requires-2
+put-number-requires-2 c κs = search needs
+
+same-length : tie.Need-same-length
+same-length c = search needs
+
+returns : tie.Need-returns
+unfolding refusedText
+returns c =
+    let c3 = c .before .before in
+    let c2 = c3 .before .before .before .before in
+    let c1 = c2 .before .before .before .before in
+    let s = c1 .before .before .before .before in
+    let n1 = c1 .put .ensures .place in
+    let n2 = c2 .put-number .ensures .1 in
+    let n3 = c3 .put-number2 .ensures .1 in
+    let w2 = then-number (ascii "refused ") (s .args .number) 32 (c1 .put .ensures) (c2 .put-number .ensures .0) (omega (arith, n1, n2, s .pre)) in
+    (then-number _ (s .args .place) 10 w2 (c3 .put-number2 .ensures .0) (omega (arith, n1, n2, n3, s .pre)), omega (arith, n1, n2, n3, s .pre))
+
+pub put-refusal-spec : {M : Type 1} → statement M
+put-refusal-spec =
+    tie.close
+    (tie.spec
+    slice-aggregate-put
+    put-requires
+    put-number-requires
+    put-number-requires-2
+    same-length
+    returns)

@@ -1,0 +1,96 @@
+-- `text::put_report` meets its contract: the lines one behind the other, then the charge.
+use borrow.Author.Needs.{needs}
+use mathlib.Core.Path.{_≡_, refl}
+use Prim.Native.Nat.{_+_, _*_, _-_, _≤_}
+use native.Mathlib.Numerals.{add-one}
+use native.Mathlib.Omega.{arith}
+use lib.ListN.{length}
+use Rattle.wire.specs.Bytes.{u64At}
+use Rattle.text.specs.Text.{chargeText, lineAt, linesText, linesIn, reportText}
+use Rattle.text.specs.Written.{Written}
+use Rattle.text.proofs.Laws.{then-written}
+use Rattle.text.proofs.put_report.Statement.{statement}
+use Rattle.text.proofs.put_report.Tie as tie
+
+abbrev Inv-loop : tie.InvT-loop
+Inv-loop out₀ report lines at₀ i₀ out at i =
+    (i ≤ lines) × (lines ≡ linesIn report) × (at ≤ 128 * i) × Written out₀ 0 (linesText report i) out at × (length out ≡ length out₀)
+
+abbrev μ-loop : tie.MeasureT-loop
+μ-loop out₀ report lines at₀ i₀ out at i = lines - i
+
+lines-in-requires : tie.Need-lines-in-requires Inv-loop μ-loop
+lines-in-requires c κs = search needs
+
+loop-holds : tie.Need-loop-holds Inv-loop μ-loop
+unfolding linesText
+loop-holds c = (omega arith, c .lines-in .ensures, omega arith, record { bytes = refl; place = refl }, refl)
+
+mul-put-line-at : tie.Need-mul-put-line-at Inv-loop μ-loop
+mul-put-line-at c = omega arith
+
+add-put-line-at : tie.Need-add-put-line-at Inv-loop μ-loop
+add-put-line-at c = omega arith
+
+put-line-at-requires : tie.Need-put-line-at-requires Inv-loop μ-loop
+put-line-at-requires c κs = (omega arith, omega arith)
+
+add-i : tie.Need-add-i Inv-loop μ-loop
+add-i c = omega arith
+
+loop-less : tie.Need-loop-less Inv-loop μ-loop
+loop-less c = omega arith
+
+loop-again : tie.Need-loop-again Inv-loop μ-loop
+unfolding linesText
+loop-again c =
+    let p = c .before .before .put-line-at in
+    let l = c .before .before .before .before .before in
+    let report = l .before .before .before .before .args .report .now in
+    let i = l .loop .i in (
+      omega arith,
+      l .loop .inv .1,
+      omega arith,
+      rw add-one (then-written (linesText report i) (lineAt report (72 + 40 * i)) (l .loop .inv .3) (p .ensures .0) (omega arith)),
+      omega arith,
+    )
+
+u64-at-requires : tie.Need-u64-at-requires Inv-loop μ-loop
+u64-at-requires c κs = omega arith
+
+put-charge-requires : tie.Need-put-charge-requires Inv-loop μ-loop
+put-charge-requires c κs = omega arith
+
+same-length : tie.Need-same-length Inv-loop μ-loop
+same-length c = omega arith
+
+returns : tie.Need-returns Inv-loop μ-loop
+unfolding reportText
+returns c =
+    let p = c .before .before in
+    let u = p .before in
+    let l = u .before .before .before in
+    let report = l .before .before .before .before .args .report .now in
+    let e : l .loop .i ≡ linesIn report = omega arith in (
+      then-written (linesText report (linesIn report)) (chargeText (u64At report 64)) (rw e at (l .loop .inv .3)) (rw (u .u64-at .ensures) at (p .put-charge .ensures .0)) (omega arith),
+      omega arith,
+    )
+
+pub put-report-spec : {M : Type 1} → statement M
+put-report-spec =
+    tie.close
+    (tie.spec
+    Inv-loop
+    μ-loop
+    lines-in-requires
+    loop-holds
+    mul-put-line-at
+    add-put-line-at
+    put-line-at-requires
+    add-i
+    loop-less
+    loop-again
+    u64-at-requires
+    put-charge-requires
+    same-length
+    returns)
