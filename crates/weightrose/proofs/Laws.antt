@@ -6,16 +6,70 @@ use native.Mathlib.Omega.{arith}
 use lib.ListN.{length, drop}
 use borrow.Author.Tests.{le-leb, lt-leb}
 use Rattle.wire.specs.Bytes.{placed}
+use Rattle.words.specs.Words.{_≤?_}
 use Rattle.refusal.specs.declared.Answer.{Answer}
+use Rattle.refusal.specs.declared.Checked.{Checked}
+use Rattle.refusal.specs.declared.Checked.the-variants.{Fine, Bad}
+use Rattle.refusal.specs.declared.Refusal.{Refusal}
+use Rattle.refusal.specs.declared.Refusal.the-variants.{ScheduleLength, ScheduleMark, ScheduleVersion, ScheduleRates, BookLength, BookMark, BookVersion, BookCounts, BookAmounts, Counterparty, Asset, Mitigant, MitigantCounts, ReinsuranceValues, StressedAssets, BufferShort}
+use Rattle.refusal.specs.Refusals.{numberOf}
+use Rattle.refusal.specs.Chain.{refuse_unless_, _andThen_, answerBy}
+use Rattle.refusal.specs.Laws.{then-first, then-rest}
+use Rattle.book.specs.Book.{bookOf}
+use Rattle.book.specs.Check.{bookCheck}
+use Rattle.book.specs.AcceptedLaws.{accepted}
+use Rattle.exposure.specs.Values.{fundCheck}
+use Rattle.figures.proofs.Size.{report-long, lines-most}
+use Rattle.schedule.specs.Check.{scheduleCheck}
 use Rattle.schedule.specs.Schedule.{published, scheduleBytes}
 use Rattle.schedule.specs.PublishedLaws.{published-length}
-use Rattle.report.specs.Answer.{reportOf, answerOf, writtenBy, Answered}
-use Rattle.weightrose.specs.Exported.{packed, Reported, Published}
+use Rattle.report.specs.Figures.{fundOf}
+use Rattle.report.specs.Answer.{fundIn, reportOf, checkOf, answerOf, writtenBy, Answered}
+use Rattle.weightrose.specs.Exported.{packed, Apart, Reported, Published}
+
+-- no refusal has the number 0
+numbered : (why : Refusal) → 1 ≤ numberOf why
+numbered ScheduleLength = omega arith
+numbered ScheduleMark = omega arith
+numbered ScheduleVersion = omega arith
+numbered ScheduleRates = omega arith
+numbered BookLength = omega arith
+numbered BookMark = omega arith
+numbered BookVersion = omega arith
+numbered BookCounts = omega arith
+numbered BookAmounts = omega arith
+numbered (Counterparty p) = omega arith
+numbered (Asset p) = omega arith
+numbered (Mitigant p) = omega arith
+numbered MitigantCounts = omega arith
+numbered ReinsuranceValues = omega arith
+numbered StressedAssets = omega arith
+numbered BufferShort = omega arith
+
+-- a report of a book that the checks let pass has at most 500 groups of 13 lines
+few : (schedule book : List ℕ) → bookCheck book ≡ Fine → length (reportOf schedule book) < 4294967296
+unfolding reportOf fundIn fundOf bookOf
+few schedule book e =
+    let F = fundIn schedule book in
+    let a = accepted book e in
+    omega (arith, report-long F, lines-most F, a .counterparties)
+
+apart : (schedule book : List ℕ) (n : ℕ) → Apart (answerOf schedule book n) (packed (answerOf schedule book n))
+unfolding answerOf checkOf
+apart schedule book n = by (checkOf schedule book n) refl
+  where
+    by : (k : Checked) → checkOf schedule book n ≡ k → Apart (answerBy k (length (reportOf schedule book))) (packed (answerBy k (length (reportOf schedule book))))
+    by Fine e =
+        few schedule book
+        (then-first (bookCheck book) (fundCheck (bookOf book) andThen (refuse BufferShort unless length (reportOf schedule book) ≤? n))
+        (then-rest (scheduleCheck schedule) (bookCheck book andThen fundCheck (bookOf book) andThen (refuse BufferShort unless length (reportOf schedule book) ≤? n)) e))
+    by (Bad why) e = omega (arith, numbered why)
 
 pub reported : (schedule book before after : List ℕ) (a : Answer) (r : ℕ) → Answered schedule book before after a → r ≡ packed a → Reported schedule book before after r
 reported schedule book before after a r w e =
     record {
       answer = e ∙ ap packed (w .answer);
+      apart = rw (e ∙ ap packed (w .answer)) (apart schedule book (length before));
       bytes = w .bytes ∙ ap (λ (x : Answer). writtenBy x (reportOf schedule book) before) (w .answer);
       cuts = rw (w .answer) at (w .cuts);
     }

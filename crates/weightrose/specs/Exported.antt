@@ -1,11 +1,12 @@
 -- What the exported entries promise.
 --   packed      an answer as one number
+--   Apart       the number tells a report from a refusal
 --   Reported    of weightrose_report
 --   Published   of weightrose_published
 use mathlib.Core.Bool.{Bool, true, false}
 use mathlib.Core.List.{List, _++_}
 use mathlib.Core.Path.{_≡_}
-use Prim.Native.Nat.{ℕ, _+_, _*_}
+use Prim.Native.Nat.{ℕ, _+_, _*_, _≤_, _<_}
 use lib.ListN.{length, drop}
 use Rattle.words.specs.Words.{_≤?_, if_then_else_}
 use Rattle.refusal.specs.declared.Answer.{Answer}
@@ -19,9 +20,15 @@ abbrev pub packed : Answer → ℕ
 packed (Report length) = length
 packed (Refused why) = numberOf why * 4294967296 + placeOf why
 
+-- the number tells the two apart: below 2^32 it is a report's length, from there on a refusal
+abbrev pub Apart : Answer → ℕ → Type 0
+Apart (Report length) r = r < 4294967296
+Apart (Refused why) r = 4294967296 ≤ r
+
 -- the number r, and the lent bytes `before` and `after`: demands 1 and 2 by the first two parts, demand 3 by the last
 pub record Reported (schedule book before after : List ℕ) (r : ℕ) : Type 0 where
   pub answer : r ≡ packed (answerOf schedule book (length before))
+  pub apart : Apart (answerOf schedule book (length before)) r
   pub bytes : after ≡ writtenBy (answerOf schedule book (length before)) (reportOf schedule book) before
   pub cuts : CutsOf (answerOf schedule book (length before)) (fundIn schedule book) after
 

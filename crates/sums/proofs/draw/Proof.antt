@@ -38,9 +38,10 @@ same-length-5 c = search needs
 returns : tie.Need-returns
 returns c =
     let s = c .before .before .before .before .before .before .before .before .before .before .before .before .before .before .before .before .before .before .before .before .before .before .before .before .before .before .before .before .before in
-    let v = c .before .before .before .before .before .before .before .before .before .before .before .before .before .before .before .before .value .ensures in
-    (record { values = v .sums; totals = c .before .before .before .before .totals .ensures },
-    record { of-tops = rw (s .pre .1) at (c .before .before .before .before .before .before .before .before .before .before .before .before .before .before .before .before .before .before .before .before .before .tops .ensures .entries); of-nets = v .nets-filled; of-caps = v .caps-filled })
+    let v = c .before .before .before .before .before .before .before .before .before .before .before .before .before .before .before .before .value .ensures in (
+      record { values = v .sums; totals = c .before .before .before .before .totals .ensures },
+      record { of-tops = rw (s .pre .1) at (c .before .before .before .before .before .before .before .before .before .before .before .before .before .before .before .before .before .before .before .before .before .tops .ensures .entries); of-nets = v .nets-filled; of-caps = v .caps-filled },
+    )
 
 pub draw-spec : {M : Type 1} → statement M
 draw-spec =

@@ -1,0 +1,14 @@
+pub mod Build
+pub mod Reading
+pub mod Opened
+pub mod Table
+pub mod Sums
+pub mod Turned
+pub mod Tiers
+pub mod Values
+pub mod Mitigants
+pub mod Limits
+pub mod Cascade
+pub mod Faults
+pub mod Edges
+pub mod Buffer

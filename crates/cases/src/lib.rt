@@ -1,0 +1,1 @@
+// Worked cases, computed on the definitions: all of it stands in specs/.
