@@ -17,8 +17,10 @@ target/demo: crates.txt $(wildcard crates/*/src/*.rt)
 	@rt check desk >target/demo.log 2>&1 || { cat target/demo.log; exit 1; }
 	@touch target/demo
 
-test: tests
-	@rt ci
+# The proofs come first, since what they leave in target/ is what the tests link; the last line is rt ci's own, shown again.
+test:
+	@log=$$(mktemp) && { rt ci 2>&1; echo $$? >$$log.status; } | tee $$log && test "$$(cat $$log.status)" = 0 \
+	    && $(MAKE) --no-print-directory tests && tail -n 1 $$log && rm -f $$log $$log.status
 
 include tests/tests.mk
 
