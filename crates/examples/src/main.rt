@@ -1,14 +1,14 @@
-// Document 01's checked sums, the examples of its refusals, its slips, and further books, through the entry: a title and the answer for each.
+// Document 01's slips, the example of each refusal, and further books, through the entry: a title and the answer for each.
 mod build;
-mod checked;
 mod further;
 mod print;
 mod refusals;
 mod send;
+mod slips;
 
 fn main() {
     let mut b = io::large_buffer();
-    checked::run(&mut b);
+    slips::run(&mut b);
     refusals::run(&mut b);
     further::run(&mut b);
 }

@@ -13,7 +13,7 @@ fn octet(x: u8) -> u64 {
     x as u64
 }
 
-pub fn text(s: &[u8]) {
+pub(crate) fn text(s: &[u8]) {
     io::write_all(STDOUT_FILENO, s);
 }
 
@@ -26,7 +26,7 @@ fn number(n: u64, end: &[u8]) {
 fn line(r: &[u8], at: usize)
     requires { ⌜ at + 40 ≤ length (now r) ⌝ }
 {
-    number(crate::build::wide(wire::u16_at(r, at)) as u64, b" ");
+    number(crate::build::wide(wire::u16_at(r, at)), b" ");
     number(octet(r[at + 2]), b" ");
     number(wire::u64_at(r, at + 8), b" ");
     number(wire::u64_at(r, at + 16), b" ");
@@ -45,7 +45,7 @@ fn lines(r: &[u8], n: usize)
 // The lines of a report, or how many there are where it is not short.
 fn report_lines(r: &[u8]) {
     if r.len() >= SHORT {
-        let n = crate::build::wide(wire::u16_at(r, 6));
+        let n = wire::u16_at(r, 6) as usize;
         if n <= 13 {
             lines(r, n);
         } else {
@@ -70,7 +70,7 @@ fn refused(why: Refusal) {
 }
 
 // The answer, where r is the buffer that was lent for the report.
-pub fn answer(a: Answer, r: &[u8]) {
+pub(crate) fn answer(a: Answer, r: &[u8]) {
     match a {
         Answer::Report(length) => {
             report_lines(r);
@@ -81,7 +81,7 @@ pub fn answer(a: Answer, r: &[u8]) {
 }
 
 // The last byte of a buffer.
-pub fn last(r: &[u8]) {
+pub(crate) fn last(r: &[u8]) {
     if r.len() > 0 {
         text(b"last byte ");
         number(octet(r[r.len() - 1]), b"\n");

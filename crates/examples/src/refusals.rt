@@ -1,13 +1,14 @@
 // "What the desk turns back": the example of each refusal.
 use crate::build;
-use crate::checked;
+use crate::build::Counts;
 use crate::send;
+use book::Asset;
+use book::Mitigant;
 
-// The empty book and a schedule of 121 bytes.
+// A schedule of 121 bytes.
 fn short_schedule(b: &mut [u8; 65536]) {
-    build::usual(b, build::of(0, 0, 0));
     let schedule = [0u8; 121];
-    send::header(b"1 schedule of 121 bytes\n", b, &schedule);
+    send::header(b"1\n", b, &schedule);
 }
 
 fn alter(schedule: &mut [u8; 122], at: usize, v: u16) {
@@ -16,100 +17,108 @@ fn alter(schedule: &mut [u8; 122], at: usize, v: u16) {
     }
 }
 
-// The empty book and the published schedule with another u16 at a place.
+// The published schedule with another u16 at a place.
 fn schedule(title: &[u8], b: &mut [u8; 65536], at: usize, v: u16) {
-    build::usual(b, build::of(0, 0, 0));
     let mut schedule = [0u8; 122];
     schedule::put_published(&mut schedule);
     alter(&mut schedule, at, v);
     send::altered(title, b, &schedule);
 }
 
-fn no_book(b: &mut [u8; 65536]) {
-    let mut lent = io::large_buffer();
-    send::start(b"5 empty\n", b, 0, &mut lent);
+// An empty book, a buffer of 71 bytes.
+fn too_short(b: &mut [u8; 65536]) {
+    let mut lent = [0u8; 71];
+    send::start(b"5\n", b, 0, &mut lent);
+    build::header(b, build::of(0, 0, 0), 0, 0, 0);
+    send::start(b"16\n", b, 40, &mut lent);
 }
 
-// The empty book with another u16 at a place.
-fn header(title: &[u8], b: &mut [u8; 65536], at: usize, v: u16) {
-    let c = build::of(0, 0, 0);
-    build::usual(b, c);
+// A book whose header alone is written, with a u16 at a place of it.
+pub(crate) fn header(
+    title: &[u8],
+    b: &mut [u8; 65536],
+    c: Counts,
+    base: u64,
+    excluded: u64,
+    at: u64,
+    v: u16,
+) {
+    build::header(b, c, 0, base, excluded);
     build::put16(b, at, v);
     send::book(title, b, c);
 }
 
-// A book of so many records whose header alone is written.
-pub fn counts(title: &[u8], b: &mut [u8; 65536], c: build::Counts) {
-    build::usual(b, c);
+// One ungraded name, at most one asset and at most one mitigant.
+pub(crate) fn small(
+    title: &[u8],
+    b: &mut [u8; 65536],
+    c: Counts,
+    total: u64,
+    parent: u16,
+    a: Asset,
+    m: Mitigant,
+) {
+    build::header(b, c, total, 0, 0);
+    build::counterparty(b, 0, parent, build::NAME);
+    build::asset(b, c, 0, a);
+    build::mitigant(b, c, 0, m);
     send::book(title, b, c);
 }
 
-// The empty book with these amounts.
-fn amounts(title: &[u8], b: &mut [u8; 65536], base: u64, excluded: u64) {
-    let c = build::of(0, 0, 0);
-    build::header(b, c, 0, base, excluded);
-    send::book(title, b, c);
-}
-
-fn own_parent(b: &mut [u8; 65536]) {
-    let c = build::of(1, 0, 0);
-    build::usual(b, c);
-    build::counterparty(b, 0, 1, build::NAME, 0);
-    send::book(b"10 parent = own place\n", b, c);
-}
-
-fn form_six(b: &mut [u8; 65536]) {
-    let c = build::of(1, 1, 1);
-    build::usual(b, c);
-    build::counterparty(b, 0, 0, build::NAME, 0);
-    build::asset(b, c, 0, build::covered(11, 1, 1, 0));
-    build::mitigant(b, c, 0, build::by(6, 0, 1, 0));
-    send::book(b"12 form 6\n", b, c);
-}
-
-fn too_many(b: &mut [u8; 65536]) {
-    let c = build::of(1, 0, 1);
-    build::usual(b, c);
-    build::counterparty(b, 0, 0, build::NAME, 0);
-    build::mitigant(b, c, 0, build::by(1, 0, 1, 0));
-    send::book(b"13 K = 1, N = 0, C = 1\n", b, c);
-}
-
-fn short_buffer(b: &mut [u8; 65536]) {
-    build::usual(b, build::of(0, 0, 0));
-    let mut lent = [0u8; 71];
-    send::start(b"16 buffer of 71\n", b, 40, &mut lent);
-}
-
-fn one_to_eight(b: &mut [u8; 65536]) {
+fn by_schedule(b: &mut [u8; 65536]) {
+    build::header(b, build::of(0, 0, 0), 0, 0, 0);
     short_schedule(b);
-    schedule(b"2 mark ACB\n", b, 2, 66);
-    schedule(b"3 version 2\n", b, 4, 2);
-    schedule(b"4 rate 1501\n", b, 10, 1501);
-    no_book(b);
-    header(b"6 byte 12 = 1\n", b, 12, 1);
-    header(b"7 version 0\n", b, 4, 0);
-    counts(b"8 N = 901\n", b, build::of(1, 901, 0));
+    schedule(b"2\n", b, 2, 66);
+    schedule(b"3\n", b, 4, 2);
+    schedule(b"4\n", b, 10, 1501);
 }
 
-fn nine_to_sixteen(b: &mut [u8; 65536]) {
-    // -M - 1
-    amounts(b"9 base -M - 1\n", b, 18446734073709551615, 0);
-    own_parent(b);
-    checked::one(b"11 counterparty 0\n", b, build::plain(11, 0, 0));
-    form_six(b);
-    too_many(b);
-    checked::one_of(
-        b"14 reinsurance 5 over 4\n",
+// The version is at byte 4; 18,446,734,073,709,551,615 is -M - 1.
+fn by_header(b: &mut [u8; 65536]) {
+    header(b"6\n", b, build::of(0, 0, 0), 0, 0, 12, 1);
+    header(b"7\n", b, build::of(0, 0, 0), 0, 0, 4, 0);
+    header(b"8\n", b, build::of(1, 901, 0), 0, 0, 4, 1);
+    header(b"9\n", b, build::of(0, 0, 0), 18446734073709551615, 0, 4, 1);
+    header(b"15\n", b, build::of(0, 0, 0), 0, 1, 4, 1);
+}
+
+fn by_records(b: &mut [u8; 65536]) {
+    let none = build::plain(11, 1, 0, 0, 0);
+    let cash = build::by(1, 0, 1, 0);
+    small(b"10\n", b, build::of(1, 0, 0), 0, 1, none, cash);
+    small(
+        b"11\n",
         b,
-        4,
-        build::reinsured(1, 0, 5),
+        build::of(1, 1, 0),
+        0,
+        0,
+        build::plain(11, 0, 0, 0, 0),
+        cash,
     );
-    amounts(b"15 excluded 1, total 0\n", b, 0, 1);
-    short_buffer(b);
+    small(
+        b"12\n",
+        b,
+        build::of(1, 1, 1),
+        0,
+        0,
+        build::plain(11, 1, 1, 0, 0),
+        build::by(6, 0, 1, 0),
+    );
+    small(b"13\n", b, build::of(1, 0, 1), 0, 0, none, cash);
+    small(
+        b"14\n",
+        b,
+        build::of(1, 1, 0),
+        4,
+        0,
+        build::plain(9, 1, 0, 5, 5),
+        cash,
+    );
 }
 
-pub fn run(b: &mut [u8; 65536]) {
-    one_to_eight(b);
-    nine_to_sixteen(b);
+pub(crate) fn run(b: &mut [u8; 65536]) {
+    by_schedule(b);
+    too_short(b);
+    by_header(b);
+    by_records(b);
 }
