@@ -1,13 +1,10 @@
 -- `tiers`: all 960 entries computed.
 use mathlib.Core.Path.{refl}
 use mathlib.Core.List.{List, [], _∷_}
-use mathlib.Core.Bool.{Bool}
 use Prim.Native.Nat.{ℕ}
-use lib.Dec.{eqb, eqb→eq}
-use lib.ListN.{getD}
 use Rattle.exposure.specs.Tier.{tierBy, lowerTier, reinsuranceTier, gradedTier, ungradedTier}
 use Rattle.lookup.specs.Class.{listedTier}
-use Rattle.lookup.proofs.Table.{at}
+use Rattle.lookup.proofs.Table.{entry}
 use Rattle.lookup.proofs.tiers.Statement.{statement}
 use Rattle.lookup.proofs.tiers.Tie as tie
 
@@ -55,12 +52,9 @@ list =
     2 ∷ 2 ∷ 2 ∷ 2 ∷ 2 ∷ 2 ∷ 2 ∷ 2 ∷ 2 ∷ 9 ∷ 10 ∷ 0 ∷ 2 ∷ 2 ∷ 13 ∷ 2 ∷ 2 ∷ 2 ∷ 2 ∷ 2 ∷ 2 ∷ 9 ∷ 10 ∷ 0 ∷
     []
 
-right : ℕ → ℕ → Bool
-right k x = eqb x (listedTier k)
-
 returns : tie.Need-returns
-unfolding list right listedTier tierBy lowerTier reinsuranceTier gradedTier ungradedTier
-returns c = record { size = refl; each = λ k h. eqb→eq (getD list k 0) (listedTier k) (at right list tt k h) }
+unfolding list listedTier tierBy lowerTier reinsuranceTier gradedTier ungradedTier
+returns c = record { size = refl; each = entry listedTier list refl }
 
 pub tiers-spec : {M : Type 1} → statement M
 tiers-spec = tie.close (tie.spec returns)
