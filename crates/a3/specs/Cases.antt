@@ -1,6 +1,4 @@
 -- A3, computed: T8's three groups of 600000000 in tier 3, each capped at 500000000; a tier that does not count.
-use mathlib.Core.Bool.{Bool, true, false}
-use mathlib.Core.List.{List, [], _∷_}
 use mathlib.Core.Path.{_≡_, refl}
 use Prim.Native.Nat.{ℕ}
 use Rattle.words.specs.Words.{_=?_, if_then_else_, sumOf, countFrom}

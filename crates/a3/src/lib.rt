@@ -1,39 +1,41 @@
-// The A3 sum of a fund, out of a table of exposures by group and tier.
+// The A3 sum of a fund, out of the cells of exposures by group and column.
+use cascade::TIERS;
+use cells::A3;
+use rows::COLUMNS;
 ghost use mathlib.Core.Path.{_≡_};
-ghost use Prim.Native.Nat.{ℕ, _+_, _*_, _≤_, _<_, min};
+ghost use Prim.Native.Nat.{ℕ, _+_, _*_, _≤_, _<_};
 ghost use lib.ListN.{length, getD};
-ghost use Rattle.a3.specs.A3.{a3Part, a3SumOf, cellAt};
+ghost use Rattle.words.specs.Words.{sum as sumBelow};
+ghost use Rattle.wire.specs.Bytes.{M};
+ghost use Rattle.limit.specs.Bounds.{mostLimit};
+ghost use Rattle.cascade.specs.Cascade.{byTier};
+ghost use Rattle.rows.specs.Rows.{columns};
+ghost use Rattle.a3.specs.A3.{a3Part, a3At};
 
-fn lesser(a: u64, b: u64) -> u64
-    ensures { λ r. ⌜ r ≡ min a b ⌝ }
+// What of group number k counts: tiers 1 and 3 to 6, each up to its limit.
+fn part(cells: &[u64], limits: [u64; TIERS], k: usize) -> u64
+    requires { ⌜ (k < 500) × (columns * k + columns ≤ length (now cells)) × ((t : ℕ) → getD limits t 0 ≤ mostLimit) ⌝ }
+    ensures { λ r. ⌜ r ≡ a3Part (a3At (now (cells .entry)) k) (byTier limits) ⌝ }
 {
-    if a < b { a } else { b }
+    let at = COLUMNS * k + A3;
+    let first = choice::lesser(cells[at], limits[1]);
+    let third = choice::lesser(cells[at + 1], limits[3]);
+    let fourth = choice::lesser(cells[at + 2], limits[4]);
+    let fifth = choice::lesser(cells[at + 3], limits[5]);
+    let sixth = choice::lesser(cells[at + 4], limits[6]);
+    first + third + fourth + fifth + sixth
 }
 
-// What of group g counts.
-fn part(table: &[u64], limits: [u64; 13], g: usize) -> u64
-    requires { ⌜ (g ≤ 500) × (14 * g + 14 ≤ length (now table)) × ((t : ℕ) → getD limits t 0 ≤ 15000000000000) ⌝ }
-    ensures { λ r. ⌜ r ≡ a3Part (cellAt (now (table .entry)) g) (λ t. getD limits t 0) ⌝ }
-{
-    let at = 14 * g;
-    let i = lesser(table[at + 1], limits[1]);
-    let h = lesser(table[at + 3], limits[3]);
-    let second = lesser(table[at + 4], limits[4]);
-    let first = lesser(table[at + 5], limits[5]);
-    let g = lesser(table[at + 6], limits[6]);
-    i + h + second + first + g
-}
-
-// The A3 sum of the groups of places 1 to `groups`.
-pub fn sum(table: &[u64], limits: [u64; 13], groups: usize) -> u64
-    requires { ⌜ (groups ≤ 500) × (14 * (groups + 1) ≤ length (now table)) × ((t : ℕ) → getD limits t 0 ≤ 15000000000000) ⌝ }
-    ensures { λ r. ⌜ (r ≡ a3SumOf groups (cellAt (now (table .entry))) (λ t. getD limits t 0)) × (r ≤ 37500000000000000) ⌝ }
+// The A3 sum of the groups of numbers 0 to `groups` - 1.
+pub fn sum(cells: &[u64], limits: [u64; TIERS], groups: usize) -> u64
+    requires { ⌜ (groups ≤ 500) × (columns * groups ≤ length (now cells)) × ((t : ℕ) → getD limits t 0 ≤ mostLimit) ⌝ }
+    ensures { λ r. ⌜ (r ≡ sumBelow (λ k. a3Part (a3At (now (cells .entry)) k) (byTier limits)) groups) × (r ≤ 3750 * M) ⌝ }
 {
     let mut total: u64 = 0;
-    let mut g = 0;
-    while g < groups {
-        g += 1;
-        total += part(table, limits, g);
+    let mut k = 0;
+    while k < groups {
+        total += part(cells, limits, k);
+        k += 1;
     }
     total
 }

@@ -8,7 +8,7 @@ use native.Mathlib.Omega.{arith}
 use lib.ListN.{length}
 use borrow.Author.Tests.{le-leb, lt-leb}
 use Rattle.words.specs.Words.{sumOf}
-use Rattle.book.specs.Records.{N, assetAt}
+use Rattle.book.specs.Records.{headerSize, N, assetAt}
 use Rattle.book.specs.Book.{Holding, holdingsFrom}
 use Rattle.book.specs.Check.{countsAdd, headerCheck, recordsCheck, bookCheck}
 use Rattle.refusal.specs.declared.Checked.{Checked}
@@ -51,14 +51,14 @@ module _ {b : List ℕ} {sum place : ℕ} (s : Adding b sum place) where
   adding-ends h = let d : N b + 1 - place ≡ 0 = omega arith in omega (arith, rw d at (s .rest))
 
 module _ (b : List ℕ) where
-  pub by-length : length b < 40 → Bad BookLength ≡ bookCheck b
+  pub by-length : length b < headerSize → Bad BookLength ≡ bookCheck b
   unfolding bookCheck
-  by-length h = rw (lt-leb 40 (length b) h)
+  by-length h = rw (lt-leb headerSize (length b) h)
 
-  pub by-header : {found : Checked} {why : Refusal} → 40 ≤ length b → found ≡ headerCheck b → found ≡ Bad why → Bad why ≡ bookCheck b
+  pub by-header : {found : Checked} {why : Refusal} → headerSize ≤ length b → found ≡ headerCheck b → found ≡ Bad why → Bad why ≡ bookCheck b
   unfolding bookCheck
-  by-header h e f = rw (le-leb 40 (length b) h, sym e ∙ f)
+  by-header h e f = rw (le-leb headerSize (length b) h, sym e ∙ f)
 
-  pub by-records : {found : Checked} → 40 ≤ length b → found ≡ headerCheck b → found ≡ Fine → recordsCheck b ≡ bookCheck b
+  pub by-records : {found : Checked} → headerSize ≤ length b → found ≡ headerCheck b → found ≡ Fine → recordsCheck b ≡ bookCheck b
   unfolding bookCheck
-  by-records h e f = rw (le-leb 40 (length b) h, sym e ∙ f)
+  by-records h e f = rw (le-leb headerSize (length b) h, sym e ∙ f)

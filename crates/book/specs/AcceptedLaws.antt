@@ -5,9 +5,9 @@
 use mathlib.Core.Bool.{Bool, true, false, _||_}
 use mathlib.Core.List.{List, [], _∷_}
 use mathlib.Core.Path.{_≡_}
-use Prim.Native.Nat.{ℕ, _+_, _*_, _-_, _/_, _%_, _≤_, _<_}
+use Prim.Native.Nat.{ℕ, _+_, _-_, _/_, _%_, _≤_, _<_}
 use native.Mathlib.Omega.{arith}
-use lib.IntN.{ℤ, pos, negsuc}
+use lib.IntN.{ℤ, pos, negsuc, negℤ}
 use lib.Signed.{leZ}
 use lib.ListN.{length}
 use borrow.Author.Tests.{leb-true, ltb-true, eqb-true}
@@ -21,15 +21,15 @@ use Rattle.refusal.specs.Chain.{refuse_unless_, _andThen_}
 use Rattle.refusal.specs.Laws.{then-first, then-rest, unless-fine, each-good}
 use Rattle.book.specs.declared.Asset.{Asset}
 use Rattle.book.specs.declared.Mitigant.{Mitigant}
-use Rattle.book.specs.Records.{C, N, K, total, base, excluded, counterpartyAt, assetAt, mitigantAt}
+use Rattle.book.specs.Records.{headerSize, mostCounterparties, mostAssets, mostMitigants, C, N, K, total, base, excluded, bookSize, counterpartyStart, counterpartyAt, assetAt, mitigantAt}
 use Rattle.book.specs.Fields.{reinsurance}
 use Rattle.book.specs.Check.{bookMarked, countsFit, amountsFit, goodCounterparty, inBook, noReinsuranceFields, reinsuranceFieldsFit, amountsWithin, goodAsset, goodMitigant, countsAdd, headerCheck, counterpartiesCheck, assetsCheck, mitigantsCheck, countsCheck, recordsCheck, bookCheck}
 use Rattle.book.specs.Accepted.{Within, HeaderFits, AssetFits, MitigantFits, Accepted}
 
 -- ---- the header
-within : (z : ℤ) → leZ (negsuc 9_999_999_999_999) z ≡ true → leZ z (pos M) ≡ true → Within z
+within : (z : ℤ) → leZ (negℤ (pos M)) z ≡ true → leZ z (pos M) ≡ true → Within z
 within (pos n) l h = leb-true n M h
-within (negsuc n) l h = omega (arith, leb-true n 9_999_999_999_999 l)
+within (negsuc n) l h = omega (arith, leb-true n (M - 1) l)
 
 pub header-fits : (b : List ℕ) → headerCheck b ≡ Fine → HeaderFits b
 unfolding headerCheck
@@ -38,13 +38,13 @@ header-fits b e =
     let amounts = refuse BookAmounts unless amountsFit b in
     let e1 = then-rest (refuse BookMark unless bookMarked b) ((refuse BookVersion unless u16At b 4 =? 1) andThen counts andThen amounts) e in
     let e2 = then-rest (refuse BookVersion unless u16At b 4 =? 1) (counts andThen amounts) e1 in
-    let w = each-true (C b ≤? 500) ((N b ≤? 900) ∷ (K b ≤? 1500) ∷ (length b =? 40 + 4 * C b + 48 * N b + 12 * K b) ∷ []) (unless-fine BookCounts (countsFit b) (then-first counts amounts e2)) in
-    let v = each-true (total b ≤? M) ((excluded b ≤? M) ∷ leZ (negsuc 9_999_999_999_999) (base b) ∷ leZ (base b) (pos M) ∷ []) (unless-fine BookAmounts (amountsFit b) (then-rest counts amounts e2)) in
+    let w = each-true (C b ≤? mostCounterparties) ((N b ≤? mostAssets) ∷ (K b ≤? mostMitigants) ∷ (length b =? bookSize b) ∷ []) (unless-fine BookCounts (countsFit b) (then-first counts amounts e2)) in
+    let v = each-true (total b ≤? M) ((excluded b ≤? M) ∷ leZ (negℤ (pos M)) (base b) ∷ leZ (base b) (pos M) ∷ []) (unless-fine BookAmounts (amountsFit b) (then-rest counts amounts e2)) in
     record {
-      counterparties = leb-true (C b) 500 (w .0);
-      assets = leb-true (N b) 900 (w .1 .0);
-      mitigants = leb-true (K b) 1500 (w .1 .1 .0);
-      size = eqb-true (length b) (40 + 4 * C b + 48 * N b + 12 * K b) (w .1 .1 .1 .0);
+      counterparties = leb-true (C b) mostCounterparties (w .0);
+      assets = leb-true (N b) mostAssets (w .1 .0);
+      mitigants = leb-true (K b) mostMitigants (w .1 .1 .0);
+      size = eqb-true (length b) (bookSize b) (w .1 .1 .1 .0);
       total = leb-true (total b) M (v .0);
       base = within (base b) (v .1 .1 .0) (v .1 .1 .1 .0);
       excluded = leb-true (excluded b) M (v .1 .0);
@@ -102,7 +102,7 @@ counterparty-fits : (b : List ℕ) (p : ℕ) → goodCounterparty b p ≡ true
     → (counterpartyAt b p .parent < p) × (counterpartyAt b p .grade < 8) × (counterpartyAt b p .flags < 8)
 unfolding goodCounterparty counterpartyAt
 counterparty-fits b p e =
-    let at = 40 + 4 * (p - 1) in
+    let at = counterpartyStart p in
     let h = each-true (u16At b at <? p) ((byteAt b (at + 2) % 16 ≤? 7) ∷ (byteAt b (at + 2) / 16 ≤? 4) ∷ (byteAt b (at + 3) <? 8) ∷ []) e in
     (ltb-true (u16At b at) p (h .0), omega (arith, leb-true (byteAt b (at + 2) % 16) 7 (h .1 .0)), ltb-true (byteAt b (at + 3)) 8 (h .1 .1 .1 .0))
 
@@ -110,7 +110,7 @@ counterparty-fits b p e =
 pub accepted : (b : List ℕ) → bookCheck b ≡ Fine → Accepted b
 unfolding bookCheck recordsCheck counterpartiesCheck assetsCheck mitigantsCheck countsCheck
 accepted b e =
-    let e0 = then-rest (refuse BookLength unless 40 ≤? length b) (headerCheck b andThen recordsCheck b) e in
+    let e0 = then-rest (refuse BookLength unless headerSize ≤? length b) (headerCheck b andThen recordsCheck b) e in
     let h = header-fits b (then-first (headerCheck b) (recordsCheck b) e0) in
     let e1 = then-rest (headerCheck b) (recordsCheck b) e0 in
     let e2 = then-rest (counterpartiesCheck b) (assetsCheck b andThen mitigantsCheck b andThen countsCheck b) e1 in

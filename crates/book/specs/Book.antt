@@ -56,5 +56,5 @@ topIn zero who place = place
 topIn (suc steps) who place = if parentOf who place =? 0 then place else topIn steps who (parentOf who place)
 
 -- "A group is everyone with the same topmost parent"; each step goes to a lower place, so a place needs no more steps than its number
-unfoldable pub topOf : Book → ℕ → ℕ
-topOf B place = topIn place (B .counterparty) place
+unfoldable pub topOf : (ℕ → Counterparty) → ℕ → ℕ
+topOf who place = topIn place who place

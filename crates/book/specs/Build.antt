@@ -1,4 +1,7 @@
--- Books out of numbers, as bytes, for worked cases; and `bookComputed`, which opens every definition on the way from them to a check.
+-- Books out of numbers, as bytes, for worked cases.
+--   counterparty asset mitigant   the bytes of a record
+--   bookBytes                     the bytes of a book
+--   bookComputed                  opens every definition on the way from them to a check
 use mathlib.Core.List.{List, [], _∷_, _++_}
 use Prim.Native.Nat.{ℕ, _+_, _*_}
 use lib.ListN.{length}

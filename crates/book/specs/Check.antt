@@ -1,8 +1,12 @@
 -- Refusals 5 to 13.
+--   bookMarked countsFit amountsFit              the header's tests
+--   goodCounterparty goodAsset goodMitigant      a record's; inBook, noReinsuranceFields, reinsuranceFieldsFit, amountsWithin are parts of them
+--   countsAdd                                    the counts of mitigants added up
+--   headerCheck recordsCheck bookCheck           the refusals 6 to 9, 10 to 13, and all; counterpartiesCheck, assetsCheck, mitigantsCheck, countsCheck are 10 to 13
 use mathlib.Core.Bool.{Bool, not, _&&_, _||_}
 use mathlib.Core.List.{List}
-use Prim.Native.Nat.{ℕ, _+_, _*_, _/_, _%_}
-use lib.IntN.{pos, negsuc}
+use Prim.Native.Nat.{ℕ, _+_, _/_, _%_}
+use lib.IntN.{pos, negℤ}
 use lib.Signed.{leZ}
 use lib.ListN.{length}
 use Rattle.words.specs.Words.{_≤?_, _<?_, _=?_, if_then_else_, sumOf}
@@ -13,7 +17,7 @@ use Rattle.refusal.specs.declared.Refusal.the-variants.{BookLength, BookMark, B
 use Rattle.refusal.specs.Chain.{refuse_unless_, _andThen_, refuseEach}
 use Rattle.book.specs.declared.Asset.{Asset}
 use Rattle.book.specs.declared.Mitigant.{Mitigant}
-use Rattle.book.specs.Records.{C, N, K, total, base, excluded, counterpartyStart, assetAt, mitigantAt}
+use Rattle.book.specs.Records.{headerSize, mostCounterparties, mostAssets, mostMitigants, C, N, K, total, base, excluded, bookSize, counterpartyStart, assetAt, mitigantAt}
 use Rattle.book.specs.Fields.{reinsurance, rises}
 use Rattle.book.specs.Book.{Holding, holdingsFrom}
 
@@ -26,11 +30,11 @@ bookMarked b =
 -- "C ≤ 500, N ≤ 900, K ≤ 1,500"; "Length is 40 + 4C + 48N + 12K"
 abbrev pub countsFit : List ℕ → Bool
 countsFit b =
-    C b ≤? 500 && N b ≤? 900 && K b ≤? 1500 && length b =? 40 + 4 * C b + 48 * N b + 12 * K b
+    C b ≤? mostCounterparties && N b ≤? mostAssets && K b ≤? mostMitigants && length b =? bookSize b
 
 -- "total or excluded over M, base outside −M to M"
 abbrev pub amountsFit : List ℕ → Bool
-amountsFit b = total b ≤? M && excluded b ≤? M && leZ (negsuc 9_999_999_999_999) (base b) && leZ (base b) (pos M)
+amountsFit b = total b ≤? M && excluded b ≤? M && leZ (negℤ (pos M)) (base b) && leZ (base b) (pos M)
 
 -- "u16 parent (0 none, else a lower place); (..) grade 0 to 7 (..) kind (0 .. 4); flags: bit 0, 1, 2"
 unfoldable pub goodCounterparty : List ℕ → ℕ → Bool
@@ -101,4 +105,4 @@ recordsCheck b = counterpartiesCheck b andThen assetsCheck b andThen mitigantsCh
 
 -- 5 to 13, "by rising number"; 5: "book under 40 bytes"
 unfoldable pub bookCheck : List ℕ → Checked
-bookCheck b = (refuse BookLength unless 40 ≤? length b) andThen headerCheck b andThen recordsCheck b
+bookCheck b = (refuse BookLength unless headerSize ≤? length b) andThen headerCheck b andThen recordsCheck b

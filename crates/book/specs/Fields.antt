@@ -1,4 +1,7 @@
 -- The words of document 01 for fields and flags of a record.
+--   kindNumber _is_                        a kind's number; a counterparty of a kind
+--   graded related affiliate secondLimb    of a counterparty
+--   linked rises reinsurance               of an asset
 use mathlib.Core.Bool.{Bool, _&&_}
 use Prim.Native.Nat.{ℕ}
 use Rattle.wire.specs.Bytes.{bit}

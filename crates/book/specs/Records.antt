@@ -1,4 +1,11 @@
--- "Book": what stands where in its bytes. Only this file and Book know places in the bytes.
+-- "Book": what stands where in its bytes.
+--   headerSize counterpartySize assetSize mitigantSize   how many bytes the header and a record of each type have
+--   mostCounterparties mostAssets mostMitigants          the most records of each type
+--   C N K total base excluded headerAt                   the header's numbers, and all of them together
+--   assetsStart mitigantsStart bookSize                  where a section starts, and how many bytes its counts give a book
+--   counterpartyStart assetStart mitigantStart           where the record of a place starts
+--   kindOf                                               the kind of a number
+--   counterpartyAt assetAt mitigantAt                    the record of a place
 use mathlib.Core.List.{List}
 use Prim.Native.Nat.{ℕ, _+_, _*_, _-_, _/_, _%_}
 use lib.IntN.{ℤ}
@@ -10,6 +17,34 @@ use Rattle.book.specs.declared.Header.{Header}
 use Rattle.book.specs.declared.Counterparty.{Counterparty}
 use Rattle.book.specs.declared.Asset.{Asset}
 use Rattle.book.specs.declared.Mitigant.{Mitigant}
+
+-- "Header, 40 bytes"
+abbrev pub headerSize : ℕ
+headerSize = 40
+
+-- "Counterparty, 4 bytes"
+abbrev pub counterpartySize : ℕ
+counterpartySize = 4
+
+-- "Asset, 48 bytes"
+abbrev pub assetSize : ℕ
+assetSize = 48
+
+-- "Mitigant, 12 bytes"
+abbrev pub mitigantSize : ℕ
+mitigantSize = 12
+
+-- "C ≤ 500"
+abbrev pub mostCounterparties : ℕ
+mostCounterparties = 500
+
+-- "N ≤ 900"
+abbrev pub mostAssets : ℕ
+mostAssets = 900
+
+-- "K ≤ 1,500"
+abbrev pub mostMitigants : ℕ
+mostMitigants = 1500
 
 -- "u16 counterparties C ≤ 500, u16 assets N ≤ 900, u16 mitigants K ≤ 1,500"
 abbrev pub C : List ℕ → ℕ
@@ -43,15 +78,26 @@ headerAt b =
       excluded = excluded b;
     }
 
--- where the record of a place starts; "record places from 1"
+-- the sections follow the header in this order
+abbrev pub assetsStart : List ℕ → ℕ
+assetsStart b = headerSize + counterpartySize * C b
+
+abbrev pub mitigantsStart : List ℕ → ℕ
+mitigantsStart b = assetsStart b + assetSize * N b
+
+-- "Length is 40 + 4C + 48N + 12K"
+abbrev pub bookSize : List ℕ → ℕ
+bookSize b = mitigantsStart b + mitigantSize * K b
+
+-- "record places from 1"
 abbrev pub counterpartyStart : ℕ → ℕ
-counterpartyStart place = 40 + 4 * (place - 1)
+counterpartyStart place = headerSize + counterpartySize * (place - 1)
 
 abbrev pub assetStart : List ℕ → ℕ → ℕ
-assetStart b place = 40 + 4 * C b + 48 * (place - 1)
+assetStart b place = assetsStart b + assetSize * (place - 1)
 
 abbrev pub mitigantStart : List ℕ → ℕ → ℕ
-mitigantStart b place = 40 + 4 * C b + 48 * N b + 12 * (place - 1)
+mitigantStart b place = mitigantsStart b + mitigantSize * (place - 1)
 
 -- "0 other, 1 bank, 2 home government, 3 provincial government, 4 registered life company"
 abbrev pub kindOf : ℕ → Kind

@@ -9,7 +9,7 @@ use borrow.Author.Tests.{ltb-true, eq-eqb, eqb-false}
 use Rattle.words.specs.Words.{if_then_else_}
 use Rattle.words.specs.Choice.{by-test, if-le}
 use Rattle.book.specs.declared.Counterparty.{Counterparty}
-use Rattle.book.specs.Book.{Book, parentOf, topIn, topOf}
+use Rattle.book.specs.Book.{parentOf, topIn, topOf}
 
 pub parent-lower : (who : ℕ → Counterparty) (p : ℕ) → parentOf who p ≤ p - 1
 unfolding parentOf
@@ -32,11 +32,10 @@ agree (suc f) (suc g) who p h k =
     (agree f g who (parentOf who p) (omega (arith, parent-lower who p)) (omega (arith, parent-lower who p)))
 
 -- a place without parent is its own top, any other has its parent's
-pub top-step : (B : Book) (p : ℕ) → topOf B p ≡ (if eqb (parentOf (B .counterparty) p) 0 then p else topOf B (parentOf (B .counterparty) p))
+pub top-step : (who : ℕ → Counterparty) (p : ℕ) → topOf who p ≡ (if eqb (parentOf who p) 0 then p else topOf who (parentOf who p))
 unfolding topOf topIn
-top-step B zero = rw (root (B .counterparty) 0 (omega arith)) refl
-top-step B (suc n) =
-    let who = B .counterparty in
+top-step who zero = rw (root who 0 (omega arith)) refl
+top-step who (suc n) =
     ap (λ (z : ℕ). if eqb (parentOf who (suc n)) 0 then suc n else z)
     (agree n (parentOf who (suc n)) who (parentOf who (suc n)) (omega (arith, parent-lower who (suc n))) (omega arith))
 
@@ -47,9 +46,9 @@ top-in-le zero who p = omega arith
 top-in-le (suc n) who p =
     if-le (eqb (parentOf who p) 0) (omega arith) (omega (arith, top-in-le n who (parentOf who p), parent-lower who p))
 
-pub top-le : (B : Book) (p : ℕ) → topOf B p ≤ p
+pub top-le : (who : ℕ → Counterparty) (p : ℕ) → topOf who p ≤ p
 unfolding topOf
-top-le B p = top-in-le p (B .counterparty) p
+top-le who p = top-in-le p who p
 
 -- the topmost parent of a place is a place
 top-in-pos : (steps : ℕ) (who : ℕ → Counterparty) (p : ℕ) → 0 < p → 0 < topIn steps who p
@@ -59,6 +58,6 @@ top-in-pos (suc n) who p h =
     by-test (λ (t : ℕ). 0 < t) (eqb (parentOf who p) 0) p (topIn n who (parentOf who p)) (λ e. h)
     (λ e. top-in-pos n who (parentOf who p) (pos-of-ne-zero (eqb-false (parentOf who p) 0 e)))
 
-pub top-pos : (B : Book) (p : ℕ) → 0 < p → 0 < topOf B p
+pub top-pos : (who : ℕ → Counterparty) (p : ℕ) → 0 < p → 0 < topOf who p
 unfolding topOf
-top-pos B p h = top-in-pos p (B .counterparty) p h
+top-pos who p h = top-in-pos p who p h

@@ -2,12 +2,28 @@
 ghost use mathlib.Core.Path.{_≡_};
 ghost use Prim.Native.Nat.{_+_, _*_, _-_, _/_, _%_, _<_, _≤_};
 ghost use lib.ListN.{length};
-ghost use Rattle.wire.specs.Bytes.{bit};
-ghost use Rattle.book.specs.Records.{C, N, kindOf, assetStart, mitigantStart, headerAt, counterpartyAt, assetAt, mitigantAt};
+ghost use Rattle.wire.specs.Bytes.{u16At, bit};
+ghost use Rattle.book.specs.Records.{headerSize, counterpartySize, assetSize, mitigantSize, assetsStart, mitigantsStart, counterpartyStart, kindOf, headerAt, counterpartyAt, assetAt, mitigantAt};
+ghost use Rattle.book.specs.Check.{bookMarked};
 ghost use Rattle.book.specs.Fields.{kindNumber, _is_, graded, related, affiliate, secondLimb, linked, rises, reinsurance};
 
-// The most that an amount may be, in cents.
-pub const M: u64 = 10000000000000;
+pub const VERSION: u16 = 1;
+
+// How many bytes the header and a record of each type have.
+pub const HEADER_SIZE: usize = 40;
+
+const COUNTERPARTY_SIZE: usize = 4;
+
+const ASSET_SIZE: usize = 48;
+
+const MITIGANT_SIZE: usize = 12;
+
+// The most records of each type.
+pub const MOST_COUNTERPARTIES: usize = 500;
+
+pub const MOST_ASSETS: usize = 900;
+
+pub const MOST_MITIGANTS: usize = 1500;
 
 // The kind of a counterparty.
 pub enum Kind {
@@ -83,8 +99,30 @@ fn kind_of(n: u8) -> Kind
     }
 }
 
+// "ACB" and a zero, and the four zeros.
+pub fn marked(b: &[u8]) -> bool
+    requires { ⌜ headerSize ≤ length (now b) ⌝ }
+    ensures { λ r. ⌜ r ≡ bookMarked (now (b .entry)) ⌝ }
+{
+    (b[0] == b'A')
+        & (b[1] == b'C')
+        & (b[2] == b'B')
+        & (b[3] == 0)
+        & (b[12] == 0)
+        & (b[13] == 0)
+        & (b[14] == 0)
+        & (b[15] == 0)
+}
+
+pub fn version(b: &[u8]) -> u16
+    requires { ⌜ headerSize ≤ length (now b) ⌝ }
+    ensures { λ r. ⌜ r ≡ u16At (now (b .entry)) 4 ⌝ }
+{
+    wire::u16_at(b, 4)
+}
+
 pub fn header_at(b: &[u8]) -> Header
-    requires { ⌜ 40 ≤ length (now b) ⌝ }
+    requires { ⌜ headerSize ≤ length (now b) ⌝ }
     ensures { λ r. ⌜ r ≡ headerAt (now (b .entry)) ⌝ }
 {
     Header {
@@ -97,12 +135,20 @@ pub fn header_at(b: &[u8]) -> Header
     }
 }
 
+// Where the counterparty of a place starts.
+pub fn counterparty_start(place: usize) -> usize
+    requires { ⌜ (0 < place) × (place < 65536) ⌝ }
+    ensures { λ r. ⌜ r ≡ counterpartyStart place ⌝ }
+{
+    HEADER_SIZE + COUNTERPARTY_SIZE * (place - 1)
+}
+
 // The counterparty of a place.
 pub fn counterparty_at(b: &[u8], place: usize) -> Counterparty
-    requires { ⌜ (0 < place) × (place < 65536) × (40 + 4 * place ≤ length (now b)) ⌝ }
+    requires { ⌜ (0 < place) × (place < 65536) × (headerSize + counterpartySize * place ≤ length (now b)) ⌝ }
     ensures { λ r. ⌜ r ≡ counterpartyAt (now (b .entry)) place ⌝ }
 {
-    let at = 40 + 4 * (place - 1);
+    let at = counterparty_start(place);
     let kind = kind_of(high_four(b[at + 2]));
     Counterparty {
         parent: wire::u16_at(b, at),
@@ -112,12 +158,31 @@ pub fn counterparty_at(b: &[u8], place: usize) -> Counterparty
     }
 }
 
-// The asset of a place.
-pub fn asset_at(b: &[u8], place: usize) -> Asset
-    requires { ⌜ (0 < place) × (place < 65536) × (assetStart (now b) place + 48 ≤ length (now b)) ⌝ }
+// Where the assets start, where the mitigants, and how many bytes there are to the last of these.
+pub fn assets_start(h: Header) -> usize
+    ensures { λ r. ⌜ r ≡ headerSize + counterpartySize * h .counterparties ⌝ }
+{
+    HEADER_SIZE + COUNTERPARTY_SIZE * h.counterparties as usize
+}
+
+pub fn mitigants_start(h: Header) -> usize
+    ensures { λ r. ⌜ r ≡ headerSize + counterpartySize * h .counterparties + assetSize * h .assets ⌝ }
+{
+    assets_start(h) + ASSET_SIZE * h.assets as usize
+}
+
+pub fn size(h: Header) -> usize
+    ensures { λ r. ⌜ r ≡ headerSize + counterpartySize * h .counterparties + assetSize * h .assets + mitigantSize * h .mitigants ⌝ }
+{
+    mitigants_start(h) + MITIGANT_SIZE * h.mitigants as usize
+}
+
+// The asset of a place. Where the assets start is the caller's to know: in a loop it is then read once.
+pub fn asset_at(b: &[u8], start: usize, place: usize) -> Asset
+    requires { ⌜ (start ≡ assetsStart (now b)) × (0 < place) × (place < 65536) × (start + assetSize * place ≤ length (now b)) ⌝ }
     ensures { λ r. ⌜ r ≡ assetAt (now (b .entry)) place ⌝ }
 {
-    let at = 40 + 4 * wire::u16_at(b, 6) as usize + 48 * (place - 1);
+    let at = start + ASSET_SIZE * (place - 1);
     Asset {
         kind: b[at],
         flags: b[at + 1],
@@ -133,14 +198,12 @@ pub fn asset_at(b: &[u8], place: usize) -> Asset
     }
 }
 
-// The mitigant of a place.
-pub fn mitigant_at(b: &[u8], place: usize) -> Mitigant
-    requires { ⌜ (0 < place) × (place < 65536) × (mitigantStart (now b) place + 12 ≤ length (now b)) ⌝ }
+// The mitigant of a place, where the mitigants start at `start`.
+pub fn mitigant_at(b: &[u8], start: usize, place: usize) -> Mitigant
+    requires { ⌜ (start ≡ mitigantsStart (now b)) × (0 < place) × (place < 65536) × (start + mitigantSize * place ≤ length (now b)) ⌝ }
     ensures { λ r. ⌜ r ≡ mitigantAt (now (b .entry)) place ⌝ }
 {
-    let c = wire::u16_at(b, 6) as usize;
-    let n = wire::u16_at(b, 8) as usize;
-    let at = 40 + 4 * c + 48 * n + 12 * (place - 1);
+    let at = start + MITIGANT_SIZE * (place - 1);
     Mitigant {
         form: b[at],
         flags: b[at + 1],

@@ -33,7 +33,7 @@ abbrev pub Walk : (L e : ℕ → ℕ) → ℕ → List ℕ → (ℕ → ℕ) →
 Walk L e s [] x = Unit {0}
 Walk L e s (k ∷ ks) x = (x k ≡ e k - (L k - s)) × Walk L e (s + (e k - x k)) ks x
 
-rising-less : (L : ℕ → ℕ) (ks : List ℕ) (s r : ℕ) → r ≤ s → Rising L s ks → Rising L r ks
+pub rising-less : (L : ℕ → ℕ) (ks : List ℕ) (s r : ℕ) → r ≤ s → Rising L s ks → Rising L r ks
 rising-less L [] s r h w = tt
 rising-less L (k ∷ ks) s r h w = (omega (arith, w .0), w .1)
 
@@ -96,7 +96,7 @@ module _ (le : ℕ → ℕ → Bool) (L : ℕ → ℕ) (o : Ordered le L) where
   apart a b h q = let z : true ≡ false = sym (o .self b) ∙ ap (λ (k : ℕ). le b k) (sym q) ∙ h in (let y : _≡_ {A = ℕ} 0 1 = cc in omega arith)
 
   -- along a sorted list limits rise; a sum over the tiers at or below each one is a prefix sum; and `excess` is the walk's
-  rising : (ks : List ℕ) (s : ℕ) → All (λ u. s ≤ L u) ks → Sorted le ks → Rising L s ks
+  pub rising : (ks : List ℕ) (s : ℕ) → All (λ u. s ≤ L u) ks → Sorted le ks → Rising L s ks
   rising [] s h w = tt
   rising (k ∷ ks) s h w = (h .0, rising ks (L k) (all-map (λ u q. o .rises k u q) ks (w .0)) (w .1))
 

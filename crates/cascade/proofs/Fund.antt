@@ -1,6 +1,6 @@
--- The theorems along the ranked tiers, for any order `le` along which limits do not fall: of a group (ranked-optimal, ranked-stands, ranked-left),
--- of a fund (ranked-fund-optimal), of the arrays that the code fills (cascaded), and of a group's excesses summed.
-use mathlib.Core.Path.{_≡_, refl, ap, sym, _∙_}
+-- The theorems along the ranked tiers, for any order `le` along which limits do not fall: of a group (ranked-optimal, ranked-alone, ranked-stands,
+-- ranked-left), of a fund (ranked-fund-optimal), and of a group's excesses summed.
+use mathlib.Core.Path.{_≡_, refl, ap}
 use mathlib.Core.Bool.{Bool}
 use mathlib.Core.List.{List}
 use Prim.Native.Nat.{ℕ, _+_, _-_, _≤_, _<_}
@@ -8,18 +8,20 @@ use native.Mathlib.Omega.{arith}
 use native.Mathlib.Decide.{decLt}
 use borrow.Author.Tests.{lt-ltb, le-ltb}
 use lib.Dec.{ltb}
-use lib.ListN.{getD, replicate, length-replicate}
-use Rattle.cascade.specs.Cascade.{byTier, ranked, leftAt, excessAt, standing, left, excess, standingAfter, excessSum}
+use Rattle.cascade.specs.Cascade.{ranked, standing, left, excess, standingAfter, excessSum}
 use Rattle.cascade.specs.Cut.{stands, taken, Optimal, FundOptimal}
-use Rattle.cascade.specs.Promise.{Cascaded}
 use Rattle.words.specs.Words.{if_then_else_, sum}
-use Rattle.words.specs.Sums.{all-map, sum-le, sum-same}
+use Rattle.words.specs.Sums.{sum-le, sum-same}
 use Rattle.cascade.proofs.Core.{Ordered, optimal, optimal-only, stands-after, standing-within}
 use Rattle.cascade.proofs.Ranking.{ranked-sorted, ranked-lists}
-use Rattle.cascade.proofs.Visit.{visit, visited}
 
 pub ranked-optimal : (n : ℕ) (le : ℕ → ℕ → Bool) (L e : ℕ → ℕ) → Ordered le L → Optimal n le L e (excess L e (ranked le n))
 ranked-optimal n le L e o = optimal n le L e (ranked le n) o (ranked-sorted le L o n) (ranked-lists le n)
+
+-- and the excesses are the only best cut of the group's tiers
+pub ranked-alone :
+    (n : ℕ) (le : ℕ → ℕ → Bool) (L e : ℕ → ℕ) → Ordered le L → (cut : ℕ → ℕ) → Optimal n le L e cut → (t : ℕ) → t < n → 0 < e t → cut t ≡ excess L e (ranked le n) t
+ranked-alone n le L e o = optimal-only n le L e (ranked le n) o (ranked-sorted le L o n) (ranked-lists le n)
 
 -- what the excesses leave standing at a tier is what stands after it
 pub ranked-stands : (n : ℕ) (le : ℕ → ℕ → Bool) (L e : ℕ → ℕ) → Ordered le L → (t : ℕ) → t < n → stands n le e (excess L e (ranked le n)) t ≡ standingAfter L e (ranked le n) t
@@ -65,27 +67,6 @@ module _ (n : ℕ) (le : ℕ → ℕ → Bool) (L e x y : ℕ → ℕ) (q : (t :
         least = λ c h. rw (← taken-same) (o .least c h);
       }
 
--- the arrays that the walk along the ranked tiers fills
-module _ (n : ℕ) (le : ℕ → ℕ → Bool) (L e : ℕ → ℕ) (o : Ordered le L) where
-  filled : (v : ℕ → ℕ → ℕ) (t : ℕ) → t < n → getD (visit v L e 0 (ranked le n) (replicate n 0)) t 0 ≡ v (standing L e 0 (ranked le n) t) t
-  filled v =
-      ranked-lists le n .each (λ t. getD (visit v L e 0 (ranked le n) (replicate n 0)) t 0 ≡ v (standing L e 0 (ranked le n) t) t)
-      (visited v L e le o (ranked le n) 0 (replicate n 0) (ranked-sorted le L o n)
-      (all-map (λ t l. rw (length-replicate {A = ℕ} n 0) l) (ranked le n) (ranked-lists le n .only)))
-
-  pub cascaded :
-      (ls xs : List ℕ) → ls ≡ visit (leftAt L) L e 0 (ranked le n) (replicate n 0) → xs ≡ visit (excessAt L e) L e 0 (ranked le n) (replicate n 0)
-      → Cascaded n le L e (byTier ls) (byTier xs)
-  unfolding left excess
-  cascaded ls xs p q =
-      let x : (t : ℕ) → t < n → byTier xs t ≡ excess L e (ranked le n) t = λ t l. rw q (filled (excessAt L e) t l) in
-      record {
-        lefts = λ t l. rw p (filled (leftAt L) t l);
-        excesses = x;
-        best = optimal-same n le L e (excess L e (ranked le n)) (byTier xs) (λ t l _. sym (x t l)) (ranked-optimal n le L e o);
-        only = λ cut h t l p. optimal-only n le L e (ranked le n) o (ranked-sorted le L o n) (ranked-lists le n) cut h t l p ∙ sym (x t l);
-      }
-
 -- no excess passes its exposure
 pub excess-within : (L e : ℕ → ℕ) (ks : List ℕ) (t : ℕ) → excess L e ks t ≤ e t
 unfolding excess
@@ -106,12 +87,3 @@ excess-sum-taken n L e ks = sum-taken n e (excess L e ks) (excess L e ks) (λ t 
 pub excess-sum-within : (n : ℕ) (L e : ℕ → ℕ) (ks : List ℕ) → excessSum n L e ks ≤ sum e n
 unfolding excessSum
 excess-sum-within n L e ks = sum-le (excess L e ks) e n (λ t l. excess-within L e ks t)
-
--- the same of what `cascade` returns
-module _ {n : ℕ} {le : ℕ → ℕ → Bool} {L e l x : ℕ → ℕ} (c : Cascaded n le L e l x) where
-  pub cascaded-sum : sum x n ≡ excessSum n L e (ranked le n)
-  unfolding excessSum
-  cascaded-sum = sum-same x (excess L e (ranked le n)) n (c .excesses)
-
-  pub cascaded-within : sum x n ≤ sum e n
-  cascaded-within = omega (arith, cascaded-sum, excess-sum-within n L e (ranked le n))

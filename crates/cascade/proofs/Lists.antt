@@ -1,10 +1,9 @@
 -- Laws of lists of tiers: what holds of each entry, sums over them, and a sum that counts one number.
 use mathlib.Core.Path.{_≡_, refl}
 use mathlib.Core.List.{List, [], _∷_}
-use Prim.Native.Nat.{ℕ, zero, suc, _+_, _≤_, _<_}
+use Prim.Native.Nat.{ℕ, zero, suc, _≤_, _<_}
 use native.Mathlib.Omega.{arith}
 use native.Mathlib.Decide.{decLt}
-use native.Mathlib.Numerals.{add-one}
 use borrow.Author.Tests.{eq-eqb, ne-eqb}
 use lib.ListN.{length, getD}
 use Rattle.words.specs.Words.{_=?_, if_then_else_, sumOf, sum, All}
@@ -18,17 +17,6 @@ pub all-at : (P : ℕ → Type 0) (ks : List ℕ) → All P ks → (j : ℕ) →
 all-at P [] h j l = absurd (omega arith)
 all-at P (k ∷ ks) h zero l = h .0
 all-at P (k ∷ ks) h (suc j) l = all-at P ks (h .1) j (omega arith)
-
--- a sum over a range: one more, and a part of it
-pub sum-more : (f : ℕ → ℕ) (t : ℕ) → sum f (t + 1) ≡ sum f t + f t
-unfolding sum
-sum-more f t = rw add-one
-
-pub sum-part : (f : ℕ → ℕ) (t n : ℕ) → t ≤ n → sum f t ≤ sum f n
-unfolding sum
-sum-part f t zero l = let q : t ≡ 0 = omega arith in rw q (omega arith)
-sum-part f t (suc n) l =
-    elim (decLt n t) [ yes k ↦ (let q : t ≡ suc n = omega arith in rw q (omega arith)) | no k ↦ (let q = sum-part f t n (omega arith) in omega arith) ]
 
 -- t is counted once among 0 .. n - 1, and not at all where it is not among them
 count-none : (t n : ℕ) → n ≤ t → sum (λ u. if u =? t then 1 else 0) n ≡ 0

@@ -25,7 +25,7 @@ part who kind tier amount = who ∷ kind ∷ tier ∷ amount ∷ []
 unfoldable parts : List ℕ → List ℕ
 parts b =
     let B = bookOf b in
-    eachOf (λ (x : Exposure). if 0 <? x .amount then part (x .counterparty) (x .kind) (tierOf B x) (x .amount) else []) (exposures B)
+    eachOf (λ (x : Exposure). if 0 <? x .amount then part (x .counterparty) (x .kind) (tierOf (B .counterparty) x) (x .amount) else []) (exposures B)
 
 -- ---- recognition
 

@@ -15,7 +15,7 @@ use Rattle.cascade.specs.Cascade.{ranks, insert, ranked, next, standing, left, 
 use Rattle.a3.specs.A3.{a3Part, a3SumOf}
 use Rattle.figures.specs.Report.{tierSet, lineOf, cellLines, groupExcess, charge, lineBytes, headBytes, headOf, report}
 use Rattle.figures.specs.Read.{lineFrom}
-use Rattle.report.specs.Figures.{limitsOf, a3Sum, a3Limit, fundOf}
+use Rattle.fund.specs.Figures.{limitsOf, a3Sum, a3Limit, fundOf}
 use Rattle.report.specs.Answer.{fundIn, reportOf, checkOf, answerOf}
 
 -- the report, with every definition on the way opened: a proof that says `unfolding reportComputed` computes it

@@ -24,7 +24,7 @@ inTier tier asset = record { asset = asset; tier = tier }
 unfoldable right : List (List ℕ) → List Classed → Bool
 right names xs =
     let B = bookOf (usual names (eachOf (λ (x : Classed). x .asset ∷ []) xs) []) in
-    same (eachOf (λ x. tierOf B x ∷ []) (exposures B)) (eachOf (λ (x : Classed). x .tier ∷ []) xs)
+    same (eachOf (λ x. tierOf (B .counterparty) x ∷ []) (exposures B)) (eachOf (λ (x : Classed). x .tier ∷ []) xs)
 
 -- ---- kinds 1 to 8, 10 and 11
 

@@ -12,7 +12,7 @@ use Rattle.book.specs.declared.Counterparty.{Counterparty}
 use Rattle.book.specs.declared.Asset.{Asset}
 use Rattle.book.specs.declared.Mitigant.{Mitigant}
 use Rattle.book.specs.Fields.{linked}
-use Rattle.book.specs.Book.{Book, Holding}
+use Rattle.book.specs.Book.{Holding}
 use Rattle.exposure.specs.declared.Exposure.{Exposure}
 use Rattle.exposure.specs.Values.{net}
 use Rattle.exposure.specs.Parts.{recognised, covers, coveredPart, remainder, partsOf, halfCovered, mayBeCovered, exposuresOf}
@@ -24,35 +24,35 @@ pub covers-le : (a : Asset) (m : Mitigant) (who : Counterparty) (still : ℕ) �
 unfolding covers
 covers-le a m who still = if-le (recognised a m who) (omega arith) (omega arith)
 
-pub may-le : (B : Book) (a : Asset) → mayBeCovered B a ≤ net a
+pub may-le : (cs : ℕ → Counterparty) (a : Asset) → mayBeCovered cs a ≤ net a
 unfolding mayBeCovered
-may-le B a = if-le (halfCovered a (B .counterparty (a .counterparty))) (omega arith) (omega arith)
+may-le cs a = if-le (halfCovered a (cs (a .counterparty))) (omega arith) (omega arith)
 
-pub parts-sum : (B : Book) (a : Asset) (ms : List Mitigant) (still rest : ℕ) → still ≤ rest → sumOf amount (partsOf B a ms still rest) ≡ rest
+pub parts-sum : (cs : ℕ → Counterparty) (a : Asset) (ms : List Mitigant) (still rest : ℕ) → still ≤ rest → sumOf amount (partsOf cs a ms still rest) ≡ rest
 unfolding partsOf coveredPart remainder sumOf
-parts-sum B a [] still rest h = omega arith
-parts-sum B a (m ∷ ms) still rest h =
-    let part = covers a m (B .counterparty (m .counterparty)) still in
-    let le = covers-le a m (B .counterparty (m .counterparty)) still in
-    omega (arith, le, parts-sum B a ms (still - part) (rest - part) (omega arith))
+parts-sum cs a [] still rest h = omega arith
+parts-sum cs a (m ∷ ms) still rest h =
+    let part = covers a m (cs (m .counterparty)) still in
+    let le = covers-le a m (cs (m .counterparty)) still in
+    omega (arith, le, parts-sum cs a ms (still - part) (rest - part) (omega arith))
 
-pub parts-net : (B : Book) (h : Holding) → linked (h .asset) ≡ false → sumOf amount (exposuresOf B h) ≡ net (h .asset)
+pub parts-net : (cs : ℕ → Counterparty) (h : Holding) → linked (h .asset) ≡ false → sumOf amount (exposuresOf cs h) ≡ net (h .asset)
 unfolding exposuresOf
-parts-net B h e =
-    rw e (parts-sum B (h .asset) (h .mitigants) (mayBeCovered B (h .asset)) (net (h .asset)) (may-le B (h .asset)))
+parts-net cs h e =
+    rw e (parts-sum cs (h .asset) (h .mitigants) (mayBeCovered cs (h .asset)) (net (h .asset)) (may-le cs (h .asset)))
 
-pub parts-length : (B : Book) (a : Asset) (ms : List Mitigant) (still rest : ℕ) → length (partsOf B a ms still rest) ≡ length ms + 1
+pub parts-length : (cs : ℕ → Counterparty) (a : Asset) (ms : List Mitigant) (still rest : ℕ) → length (partsOf cs a ms still rest) ≡ length ms + 1
 unfolding partsOf
-parts-length B a [] still rest = refl
-parts-length B a (m ∷ ms) still rest =
-    let part = covers a m (B .counterparty (m .counterparty)) still in
-    omega (arith, parts-length B a ms (still - part) (rest - part))
+parts-length cs a [] still rest = refl
+parts-length cs a (m ∷ ms) still rest =
+    let part = covers a m (cs (m .counterparty)) still in
+    omega (arith, parts-length cs a ms (still - part) (rest - part))
 
-pub holding-length : (B : Book) (h : Holding) → linked (h .asset) ≡ false → length (exposuresOf B h) ≡ length (h .mitigants) + 1
+pub holding-length : (cs : ℕ → Counterparty) (h : Holding) → linked (h .asset) ≡ false → length (exposuresOf cs h) ≡ length (h .mitigants) + 1
 unfolding exposuresOf
-holding-length B h e =
-    rw e (parts-length B (h .asset) (h .mitigants) (mayBeCovered B (h .asset)) (net (h .asset)))
+holding-length cs h e =
+    rw e (parts-length cs (h .asset) (h .mitigants) (mayBeCovered cs (h .asset)) (net (h .asset)))
 
-pub linked-none : (B : Book) (h : Holding) → linked (h .asset) ≡ true → exposuresOf B h ≡ []
+pub linked-none : (cs : ℕ → Counterparty) (h : Holding) → linked (h .asset) ≡ true → exposuresOf cs h ≡ []
 unfolding exposuresOf
-linked-none B h e = rw e
+linked-none cs h e = rw e

@@ -56,8 +56,8 @@ unfoldable pub halfCovered : Asset → Counterparty → Bool
 halfCovered a who = reinsurance a && not (who is LifeCompany) && not (affiliate who)
 
 -- "That starts at net, or at net/2 rounded down"
-unfoldable pub mayBeCovered : Book → Asset → ℕ
-mayBeCovered B a = if halfCovered a (B .counterparty (a .counterparty)) then net a / 2 else net a
+unfoldable pub mayBeCovered : (ℕ → Counterparty) → Asset → ℕ
+mayBeCovered cs a = if halfCovered a (cs (a .counterparty)) then net a / 2 else net a
 
 -- "A covered part becomes an exposure to the mitigant's counterparty"
 unfoldable pub coveredPart : Mitigant → Counterparty → ℕ → Exposure
@@ -71,18 +71,18 @@ remainder a amount =
 
 -- "recognised mitigants are taken in order", where `still` may still be covered and `rest` is what no mitigant has covered so far;
 -- "Parts and remainder add up to net"
-unfoldable pub partsOf : Book → Asset → List Mitigant → ℕ → ℕ → List Exposure
-partsOf B a [] still rest = remainder a rest ∷ []
-partsOf B a (m ∷ ms) still rest =
-    let who = B .counterparty (m .counterparty) in
+unfoldable pub partsOf : (ℕ → Counterparty) → Asset → List Mitigant → ℕ → ℕ → List Exposure
+partsOf cs a [] still rest = remainder a rest ∷ []
+partsOf cs a (m ∷ ms) still rest =
+    let who = cs (m .counterparty) in
     let part = covers a m who still in
-    coveredPart m who part ∷ partsOf B a ms (still - part) (rest - part)
+    coveredPart m who part ∷ partsOf cs a ms (still - part) (rest - part)
 
 -- "A linked asset's net is unlimited and its mitigants unread"
-unfoldable pub exposuresOf : Book → Holding → List Exposure
-exposuresOf B h =
-    if linked (h .asset) then [] else partsOf B (h .asset) (h .mitigants) (mayBeCovered B (h .asset)) (net (h .asset))
+unfoldable pub exposuresOf : (ℕ → Counterparty) → Holding → List Exposure
+exposuresOf cs h =
+    if linked (h .asset) then [] else partsOf cs (h .asset) (h .mitigants) (mayBeCovered cs (h .asset)) (net (h .asset))
 
 -- all exposures of a book, in book order
 unfoldable pub exposures : Book → List Exposure
-exposures B = eachOf (exposuresOf B) (B .holdings)
+exposures B = eachOf (exposuresOf (B .counterparty)) (B .holdings)

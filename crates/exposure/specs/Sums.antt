@@ -20,18 +20,18 @@ amountOf test xs = sumOf (λ (x : Exposure). if test x then x .amount else 0) xs
 
 -- "A group's exposure in a tier is all that its counterparties have there in covered parts and remainders"
 unfoldable pub exposureOf : Book → ℕ → ℕ → ℕ
-exposureOf B g t = amountOf (λ x. topOf B (x .counterparty) =? g && tierOf B x =? t) (exposures B)
+exposureOf B g t = amountOf (λ x. topOf (B .counterparty) (x .counterparty) =? g && tierOf (B .counterparty) x =? t) (exposures B)
 
 -- A3: of these, "exposures to counterparties not of kind 4"
 unfoldable pub a3ExposureOf : Book → ℕ → ℕ → ℕ
 a3ExposureOf B g t =
     amountOf
-    (λ x. topOf B (x .counterparty) =? g && tierOf B x =? t && not (B .counterparty (x .counterparty) is LifeCompany))
+    (λ x. topOf (B .counterparty) (x .counterparty) =? g && tierOf (B .counterparty) x =? t && not (B .counterparty (x .counterparty) is LifeCompany))
     (exposures B)
 
 -- "W, the whole fund's tier c exposure of kind 3"
 unfoldable pub W : Book → ℕ
-W B = amountOf (λ x. tierOf B x =? 11 && x .kind =? 3) (exposures B)
+W B = amountOf (λ x. tierOf (B .counterparty) x =? 11 && x .kind =? 3) (exposures B)
 
 -- "all net (linked too)"
 unfoldable pub allNet : Book → ℕ
@@ -43,4 +43,4 @@ linkedNet B = sumOf (λ (h : Holding). if linked (h .asset) then net (h .asset) 
 
 -- "unlimited (linked nets and exposures without limit)"
 unfoldable pub unlimited : Book → ℕ
-unlimited B = linkedNet B + amountOf (λ x. tierOf B x =? noLimit) (exposures B)
+unlimited B = linkedNet B + amountOf (λ x. tierOf (B .counterparty) x =? noLimit) (exposures B)

@@ -7,7 +7,6 @@ use Rattle.words.specs.Words.{_≤?_, _=?_, if_then_else_}
 use Rattle.book.specs.declared.Kind.the-variants.{Bank, HomeGovernment, ProvincialGovernment, LifeCompany}
 use Rattle.book.specs.declared.Counterparty.{Counterparty}
 use Rattle.book.specs.Fields.{_is_, graded, related, affiliate, secondLimb}
-use Rattle.book.specs.Book.{Book}
 use Rattle.cascade.specs.Cascade.{tiers}
 use Rattle.exposure.specs.declared.Exposure.{Exposure}
 
@@ -63,6 +62,6 @@ tierBy x who =
     else if x .kind =? 4 && who is Bank then 12
     else lowerTier x who
 
--- the tier of an exposure in a book
-unfoldable pub tierOf : Book → Exposure → ℕ
-tierOf B x = tierBy x (B .counterparty (x .counterparty))
+-- the tier of an exposure, where cs are the counterparties by place
+unfoldable pub tierOf : (ℕ → Counterparty) → Exposure → ℕ
+tierOf cs x = tierBy x (cs (x .counterparty))

@@ -4,15 +4,15 @@ use book::Mitigant;
 ghost use mathlib.Core.Path.{_≡_};
 ghost use Prim.Native.Nat.{_+_, _*_, _<_, _≤_};
 ghost use lib.ListN.{length};
-ghost use Rattle.words.specs.Words.{if_then_else_};
+ghost use Rattle.book.specs.Records.{headerSize, counterpartySize};
 ghost use Rattle.book.specs.Check.{goodCounterparty, inBook, noReinsuranceFields, reinsuranceFieldsFit, amountsWithin, goodAsset, goodMitigant};
 
 // The counterparty of a place: parent, grade, kind and flags. From the bytes, since a kind over 4 has no name in `Kind`.
 pub fn good_counterparty(b: &[u8], place: usize) -> bool
-    requires { ⌜ (0 < place) × (place < 65536) × (40 + 4 * place ≤ length (now b)) ⌝ }
+    requires { ⌜ (0 < place) × (place < 65536) × (headerSize + counterpartySize * place ≤ length (now b)) ⌝ }
     ensures { λ r. ⌜ r ≡ goodCounterparty (now (b .entry)) place ⌝ }
 {
-    let at = 40 + 4 * (place - 1);
+    let at = book::counterparty_start(place);
     let packed = b[at + 2];
     ((wire::u16_at(b, at) as usize) < place)
         & (book::low_four(packed) <= 7)
@@ -30,11 +30,11 @@ fn in_book(c: u16, place: u16) -> bool
 fn amounts_within(a: Asset) -> bool
     ensures { λ r. ⌜ r ≡ amountsWithin a ⌝ }
 {
-    (a.value <= book::M)
-        & (a.offsets <= book::M)
-        & (a.deductions <= book::M)
-        & (a.insurance <= book::M)
-        & (a.combination <= book::M)
+    (a.value <= wire::M)
+        & (a.offsets <= wire::M)
+        & (a.deductions <= wire::M)
+        & (a.insurance <= wire::M)
+        & (a.combination <= wire::M)
 }
 
 // What reinsurance alone is held to.
@@ -55,13 +55,6 @@ fn no_reinsurance_fields(a: Asset) -> bool
         & (a.combination == 0)
 }
 
-// One of two answers, both at hand.
-fn choose(t: bool, a: bool, b: bool) -> bool
-    ensures { λ r. ⌜ r ≡ (if t then a else b) ⌝ }
-{
-    if t { a } else { b }
-}
-
 // An asset of a book with c counterparties.
 pub fn good_asset(c: u16, a: Asset) -> bool
     ensures { λ r. ⌜ r ≡ goodAsset c a ⌝ }
@@ -72,7 +65,7 @@ pub fn good_asset(c: u16, a: Asset) -> bool
         & (a.entry <= 2)
         & in_book(c, a.counterparty)
         & amounts_within(a)
-        & choose(
+        & choice::test(
             book::is_reinsurance(a),
             reinsurance_fields_fit(a),
             no_reinsurance_fields(a),
@@ -87,5 +80,5 @@ pub fn good_mitigant(c: u16, m: Mitigant) -> bool
         & (m.form <= 5)
         & (m.flags < 32)
         & in_book(c, m.counterparty)
-        & (m.value <= book::M)
+        & (m.value <= wire::M)
 }

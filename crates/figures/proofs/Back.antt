@@ -12,6 +12,7 @@ use Rattle.wire.proofs.Laws.{read-in, number}
 use Rattle.figures.specs.declared.Line.{Line}
 use Rattle.figures.specs.Report.{lineSize, lineBytes, joined}
 use Rattle.figures.specs.Read.{lineFrom}
+use Rattle.figures.specs.AgreeLaws.{same-line}
 
 -- a number that stands in a part of a list, read in the whole
 module _ (a vs b : List ℕ) (at k : ℕ) (e : length a ≡ at) where
@@ -45,12 +46,6 @@ module _ (x : Line) where
   pub line-long : length (lineBytes x) ≡ lineSize
   unfolding lineBytes
   line-long = refl
-
--- a line by its fields
-pub same-line :
-    (x : Line) (g t s e l f c : ℕ) → g ≡ x .top → t ≡ x .tier → s ≡ x .tiers → e ≡ x .exposure → l ≡ x .limit → f ≡ x .left → c ≡ x .excess
-    → _≡_ {A = Line} (record { top = g; tier = t; tiers = s; exposure = e; limit = l; left = f; excess = c }) x
-same-line x g t s e l f c h0 h1 h2 h3 h4 h5 h6 = rw (h0, h1, h2, h3, h4, h5, h6)
 
 -- a line that stands in a list, read there
 pub line-back : (x : Line) (a b : List ℕ) (at : ℕ) → length a ≡ at → lineFrom (a ++ lineBytes x ++ b) at ≡ x

@@ -7,7 +7,7 @@ use native.Mathlib.Omega.{arith}
 use native.Mathlib.Decide.{decLt}
 use borrow.Author.Tests.{eq-eqb, eqb-true, lt-ltb, le-ltb, ltb-true, le-leb, leb-true}
 use lib.ListN.{length, length-append}
-use Rattle.words.specs.Words.{_≤?_, _<?_, _=?_, if_then_else_, sum}
+use Rattle.words.specs.Words.{_≤?_, _<?_, _=?_, if_then_else_, sum, sumOf}
 use Rattle.words.specs.Choice.{both}
 use Rattle.words.specs.Sums.{sum-le, sum-same}
 use Rattle.cascade.specs.Cut.{taken, Optimal}
@@ -15,11 +15,11 @@ use Rattle.cascade.proofs.Core.{Ordered}
 use Rattle.cascade.proofs.Fund.{ranked-optimal, optimal-same, excess-sum-taken}
 use Rattle.figures.specs.declared.Line.{Line}
 use Rattle.figures.specs.Fund.{Fund, overGroups}
-use Rattle.figures.specs.Report.{headSize, lineSize, ranking, excessOf, excessSumOf, lineOf, groupExcess, charge, report}
+use Rattle.figures.specs.Report.{headSize, lineSize, ranking, excessOf, excessSumOf, lineOf, linesOf, groupExcess, charge, report}
 use Rattle.figures.specs.Read.{lineAt, linesIn, isOf, groupExcessIn, chargeIn, readExcess}
 use Rattle.figures.specs.LeastCuts.{TierOf, OneLine, FeasibleAt, takenOf, LeastCuts}
 use Rattle.figures.proofs.Sums.{sum-none, sum-one, sum-zero-at, none-of, if-zero, one-of}
-use Rattle.figures.proofs.Written.{cell, lines-in, group-excess-in, charge-in, read-sum}
+use Rattle.figures.proofs.Written.{cell, lines-sum, lines-in, group-excess-in, charge-in, read-sum}
 use Rattle.figures.proofs.Size.{report-long}
 
 -- a sum over groups and tiers of which one term is not 0
@@ -34,6 +34,19 @@ module _ (F : Fund) (f : Line → ℕ) (g t : ℕ) (h : TierOf F g t) (away : (u
       ∙ ap (λ (k : ℕ). sum (cell F f k) (F .tiers)) (omega arith)
       ∙ sum-one (cell F f g) (F .tiers) t (h .tier) (λ w _ q. cell-none g w (λ _ r. q r))
       ∙ rw (lt-ltb 0 (F .exposure g t) (h .above))
+
+module _ (F : Fund) where
+  -- a group's excesses are what they take
+  group-taken : (g : ℕ) → excessSumOf F g ≡ taken (F .tiers) (F .exposure g) (excessOf F g)
+  group-taken g = excess-sum-taken (F .tiers) (F .limit) (F .exposure g) (ranking F)
+
+  excess-cells : groupExcess F ≡ overGroups F (λ g. sum (cell F (λ x. x .excess) g) (F .tiers))
+  unfolding groupExcess lineOf taken
+  excess-cells = sum-same (λ k. excessSumOf F (k + 1)) (λ k. sum (cell F (λ x. x .excess) (k + 1)) (F .tiers)) (F .groups) (λ k _. group-taken (k + 1))
+
+  -- the group excess is that of the lines
+  pub excess-lines : groupExcess F ≡ sumOf (λ x. x .excess) (linesOf F)
+  excess-lines = excess-cells ∙ sym (lines-sum F (λ x. x .excess))
 
 module _ (F : Fund) (more : List ℕ) where
   abbrev R : List ℕ
@@ -101,16 +114,8 @@ module _ (F : Fund) (more : List ℕ) where
           let b = both _ _ (c .0) in
           record { first = leb-true _ _ (b .0); last = leb-true _ _ (b .1); tier = ltb-true _ _ (c .1); above = ltb-true _ _ (d .1) }
 
-  -- a group's excesses are what they take
-  group-taken : (g : ℕ) → excessSumOf F g ≡ taken (F .tiers) (F .exposure g) (excessOf F g)
-  group-taken g = excess-sum-taken (F .tiers) (F .limit) (F .exposure g) (ranking F)
-
   total-of : groupExcessIn R ≡ sum (λ i. lineAt R i .excess) (linesIn R)
-  unfolding groupExcess lineOf taken
-  total-of =
-      group-excess-in F more
-      ∙ sum-same (λ k. excessSumOf F (k + 1)) (λ k. sum (cell F (λ x. x .excess) (k + 1)) (F .tiers)) (F .groups) (λ k _. group-taken (k + 1))
-      ∙ sym (read-sum F more (λ x. x .excess))
+  total-of = group-excess-in F more ∙ excess-cells F ∙ sym (read-sum F more (λ x. x .excess))
 
   charge-of : chargeIn R ≡ groupExcessIn R + (F .a3Sum - F .a3Limit)
   unfolding charge
@@ -130,7 +135,7 @@ module _ (F : Fund) (more : List ℕ) where
     least-of cut h =
         rw (group-excess-in F more)
         (sum-le (λ k. excessSumOf F (k + 1)) (λ k. taken (F .tiers) (F .exposure (k + 1)) (cut (k + 1))) (F .groups)
-        (λ k l. rw (group-taken (k + 1)) (best-of (k + 1) .least (cut (k + 1)) (h (k + 1) (omega arith) (omega arith)))))
+        (λ k l. rw (group-taken F (k + 1)) (best-of (k + 1) .least (cut (k + 1)) (h (k + 1) (omega arith) (omega arith)))))
 
     pub least-cuts : LeastCuts F (report F ++ more)
     least-cuts =

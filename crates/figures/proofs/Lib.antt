@@ -3,5 +3,4 @@ pub mod Back
 pub mod Written
 pub mod Size
 pub mod Least
-pub mod Agree
 pub mod Cases

@@ -26,7 +26,7 @@ module _ (b : ℕ → Bool) where
       by true h = omega (arith, pow-suc 2 n)
       by false h = omega (arith, pow-suc 2 n)
 
-  bits-ones : (n : ℕ) → ones (bitsOf b n) ≡ countOf b n
+  pub bits-ones : (n : ℕ) → ones (bitsOf b n) ≡ countOf b n
   unfolding sum ones
   bits-ones zero = refl
   bits-ones (suc n) = by (b n) (bits-ones n)

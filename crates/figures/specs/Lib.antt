@@ -2,3 +2,4 @@ pub mod Fund
 pub mod Report
 pub mod Read
 pub mod LeastCuts
+pub mod AgreeLaws

@@ -20,3 +20,13 @@ pub struct Head {
     pub a3_limit: u64,
     pub charge: u64,
 }
+
+// The header's figures that the groups have no part in.
+pub struct Figures {
+    pub vaf: u64,
+    pub stressed_vaf: u64,
+    pub all_net: u64,
+    pub unlimited: u64,
+    pub a3_sum: u64,
+    pub a3_limit: u64,
+}

@@ -1,4 +1,2 @@
-mod Assets
-pub mod Laws
-mod Filling
-mod Worths
+pub mod Limits
+pub mod Drawing

@@ -1,59 +1,111 @@
--- What the functions of a fund's values give.
---   Worths      what one asset adds to each table and sum
---   added       the sums with one asset more; Fits: they still fit 64 bits
---   FundSums    the sums of a book
---   Valued      the sums, and both tables
-use mathlib.Core.List.{List}
+-- What the fund's functions start from and leave.
+--   Passed           a schedule and a book that refusals 1 to 13 let pass
+--   Lent Drew        the tables before and behind the passes over the book
+--   Cells Exposed Summed   the table of exposures by group, and the sums that no table holds
+--   LimitsOf RatedAs limits, ranking and figures of a fund that 14 and 15 let pass too
+--   nothing Made     what is made of a fund that they refuse, and of any
+use mathlib.Core.List.{List, []}
 use mathlib.Core.Path.{_≡_}
-use Prim.Native.Nat.{ℕ, _+_, _-_, _<_, _^_}
-use Rattle.words.specs.Words.{if_then_else_}
+use Prim.Native.Nat.{ℕ, _+_, _*_, _≤_, _<_}
+use lib.ListN.{length, getD, replicate}
 use Rattle.words.specs.Tables.{filled}
-use Rattle.book.specs.declared.Asset.{Asset}
-use Rattle.book.specs.Records.{N, assetAt}
-use Rattle.book.specs.Fields.{linked}
-use Rattle.book.specs.Book.{Book, bookOf}
-use Rattle.exposure.specs.Values.{stressed, net, ofReinsurance, reinsuranceValues, allNetted, stressedLessNetted}
-use Rattle.exposure.specs.Parts.{mayBeCovered}
-use Rattle.exposure.specs.Sums.{allNet, linkedNet}
-use Rattle.walk.specs.Walk.{Tables}
-use Rattle.fund.specs.declared.Values.{Values}
-use Rattle.fund.specs.declared.Worth.{Worth}
+use Rattle.wire.specs.Bytes.{M}
+use Rattle.refusal.specs.declared.Checked.{Checked}
+use Rattle.refusal.specs.declared.Checked.the-variants.{Fine, Bad}
+use Rattle.refusal.specs.declared.Refusal.{Refusal}
+use Rattle.schedule.specs.Schedule.{scheduleOf}
+use Rattle.schedule.specs.Check.{scheduleCheck}
+use Rattle.book.specs.Records.{N, K, counterpartyAt, assetAt}
+use Rattle.book.specs.Book.{bookOf}
+use Rattle.book.specs.Check.{bookCheck}
+use Rattle.exposure.specs.Values.{VAF, VAF′, fundCheck}
+use Rattle.exposure.specs.Parts.{exposures}
+use Rattle.exposure.specs.Tier.{tierOf, noLimit}
+use Rattle.exposure.specs.Sums.{amountOf, W, allNet, unlimited}
+use Rattle.words.specs.Words.{_=?_}
+use Rattle.cascade.specs.Cascade.{tiers, byTier, byLimit, ranked}
+use Rattle.rows.specs.Rows.{columns}
+use Rattle.assets.specs.declared.Values.{Values}
+use Rattle.assets.specs.Marks.{marked}
+use Rattle.assets.specs.Shares.{restOf, capOf}
+use Rattle.assets.specs.Assets.{restCell, FundSums}
+use Rattle.covering.specs.Pass.{Covers}
+use Rattle.cells.specs.declared.Sums.{Sums}
+use Rattle.cells.specs.Cells.{Posted}
+use Rattle.fund.specs.declared.Limited.{Limited}
+use Rattle.fund.specs.declared.Fund.{Fund}
+use Rattle.fund.specs.Figures.{limitsOf, a3Sum, a3Limit}
 
-pub record Worths (B : Book) (a : Asset) (w : Worth) : Type 0 where
-  pub of-net : w .net ≡ net a
-  pub of-cap : w .cap ≡ mayBeCovered B a
-  pub of-linked : w .linked ≡ (if linked a then net a else 0)
-  pub of-reinsurance : w .reinsurance ≡ ofReinsurance (λ x. x .value) a
-  pub of-netted : w .netted ≡ ofReinsurance (λ x. x .offsets) a
-  pub of-stressed : w .stressed ≡ ofReinsurance (λ x. stressed x - x .offsets) a
+pub record Passed (schedule book : List ℕ) : Type 0 where
+  pub of-schedule : scheduleCheck schedule ≡ Fine
+  pub of-book : bookCheck book ≡ Fine
 
-pub record Fits (v : Values) (w : Worth) : Type 0 where
-  pub all : v .all + w .net < 2 ^ 64
-  pub linked : v .linked + w .linked < 2 ^ 64
-  pub reinsurance : v .reinsurance + w .reinsurance < 2 ^ 64
-  pub netted : v .netted + w .netted < 2 ^ 64
-  pub stressed : v .stressed + w .stressed < 2 ^ 64
+-- tables of zeros that are long enough; the others need only be long enough
+pub record Lent (b starts caps rests places covered : List ℕ) : Type 0 where
+  pub of-starts : K b + 1 < length starts
+  pub of-caps : N b < length caps
+  pub of-rests : N b < length rests
+  pub of-places : N b < length places
+  pub of-covered : K b < length covered
+  pub unmarked : (q : ℕ) → _≡_ {A = ℕ} (getD starts q 0) 0
+  pub uncovered : (q : ℕ) → _≡_ {A = ℕ} (getD caps q 0) 0
 
-abbrev pub added : Values → Worth → Values
-added v w =
+-- what no limit is put on, and W
+abbrev pub sumsOf : List ℕ → Sums
+sumsOf b = record { w = W (bookOf b); free = amountOf (λ x. tierOf (counterpartyAt b) x =? noLimit) (exposures (bookOf b)) }
+
+-- the exposures by group and tier
+abbrev pub Cells : List ℕ → ℕ → List ℕ → List ℕ → Type 0
+Cells b groups cells₀ cells = Posted b groups cells₀ cells (sumsOf b)
+
+-- owners, what each mitigant covers, what may still be covered and what remains of each asset, and where that is posted, all in book order; and the cells
+pub record Drew (b : List ℕ) (groups : ℕ) (starts₀ caps₀ rests₀ places₀ covered₀ cells₀ starts caps rests places covered cells : List ℕ) : Type 0 where
+  pub marks : starts ≡ marked b starts₀ 1 1 (N b)
+  pub amounts : Covers b covered₀ (filled (λ p. capOf (counterpartyAt b) (assetAt b p)) (N b) caps₀) (filled (λ p. restOf (assetAt b p)) (N b) rests₀) covered caps rests
+  pub at-places : places ≡ filled (restCell b) (N b) places₀
+  pub exposed : Cells b groups cells₀ cells
+
+-- the same of a table that was `before`, and a row to each group
+pub record Exposed (b : List ℕ) (groups : ℕ) (cells : List ℕ) : Type 0 where
+  pub before : List ℕ
+  pub posted : Cells b groups before cells
+  pub size : columns * groups ≤ length cells
+
+pub record Summed (b : List ℕ) (values : Values) (sums : Sums) : Type 0 where
+  pub of-assets : FundSums b values
+  pub of-exposures : sums ≡ sumsOf b
+
+pub record LimitsOf (schedule book : List ℕ) (r : Limited) : Type 0 where
+  pub vaf : r .vaf ≡ VAF (bookOf book)
+  pub stressed : r .«stressed_vaf» ≡ VAF′ (bookOf book)
+  pub limits : r .limits ≡ limitsOf (scheduleOf schedule) (bookOf book)
+  pub a3 : r .«a3_limit» ≡ a3Limit (scheduleOf schedule) (bookOf book)
+
+pub record RatedAs (schedule book : List ℕ) (r : Fund) : Type 0 where
+  pub found : r .found ≡ Fine
+  pub limits : r .limits ≡ limitsOf (scheduleOf schedule) (bookOf book)
+  pub ranking : r .ranking ≡ ranked (byLimit (byTier (r .limits))) tiers
+  pub vaf : r .figures .vaf ≡ VAF (bookOf book)
+  pub stressed : r .figures .«stressed_vaf» ≡ VAF′ (bookOf book)
+  pub all-net : r .figures .«all_net» ≡ allNet (bookOf book)
+  pub unlimited : r .figures .unlimited ≡ unlimited (bookOf book)
+  pub a3-sum : r .figures .«a3_sum» ≡ a3Sum (scheduleOf schedule) (bookOf book)
+  pub a3-within : r .figures .«a3_sum» ≤ 3750 * M
+  pub a3-limit : r .figures .«a3_limit» ≡ a3Limit (scheduleOf schedule) (bookOf book)
+
+abbrev pub nothing : Refusal → Fund
+nothing why =
     record {
-      all = v .all + w .net;
-      linked = v .linked + w .linked;
-      reinsurance = v .reinsurance + w .reinsurance;
-      netted = v .netted + w .netted;
-      stressed = v .stressed + w .stressed;
+      found = Bad why;
+      limits = replicate tiers 0;
+      ranking = replicate tiers 0;
+      figures = record { vaf = 0; «stressed_vaf» = 0; «all_net» = 0; unlimited = 0; «a3_sum» = 0; «a3_limit» = 0 };
     }
 
-pub record FundSums (b : List ℕ) (v : Values) : Type 0 where
-  pub all : v .all ≡ allNet (bookOf b)
-  pub linked : v .linked ≡ linkedNet (bookOf b)
-  pub reinsurance : v .reinsurance ≡ reinsuranceValues (bookOf b)
-  pub netted : v .netted ≡ allNetted (bookOf b)
-  pub stressed : v .stressed ≡ stressedLessNetted (bookOf b)
+-- what is made of a fund, by what 14 and 15 find
+abbrev pub MadeBy : Checked → List ℕ → List ℕ → Fund → Type 0
+MadeBy Fine schedule book r = RatedAs schedule book r
+MadeBy (Bad why) schedule book r = r ≡ nothing why
 
--- what both tables hold, where they held nets₀ and caps₀, and the sums
-pub record Valued (b nets₀ caps₀ nets caps : List ℕ) (v : Values) : Type 0 where
-  pub nets-filled : nets ≡ filled (λ p. net (assetAt b p)) (N b) nets₀
-  pub caps-filled : caps ≡ filled (λ p. mayBeCovered (bookOf b) (assetAt b p)) (N b) caps₀
-  pub tables : Tables nets caps b
-  pub sums : FundSums b v
+abbrev pub Made : List ℕ → List ℕ → Fund → Type 0
+Made schedule book r = MadeBy (fundCheck (bookOf book)) schedule book r

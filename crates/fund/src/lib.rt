@@ -1,131 +1,201 @@
-// A fund's values: each asset's net and what may be covered of it as tables by place, their sums, VAF and VAF′, and refusals 14 and 15.
+// The fund of a schedule and an accepted book, for every entry: the passes over the book into lent tables, refusals 14 and 15, limits, ranking and figures.
+use assets::Values;
+use cascade::TIERS;
+use cells::Sums;
+use figures::Figures;
 use refusal::Checked;
 use refusal::Refusal;
 ghost use mathlib.Core.Path.{_≡_};
-ghost use Prim.Native.Nat.{_≤_, _<_};
-ghost use lib.ListN.{length};
-ghost use Rattle.words.specs.Words.{if_then_else_};
-ghost use Rattle.book.specs.Records.{N, assetAt};
+ghost use Rattle.refusal.specs.declared.Checked.the-variants.{Fine};
+ghost use Rattle.book.specs.Records.{C};
 ghost use Rattle.book.specs.Book.{bookOf};
 ghost use Rattle.book.specs.Accepted.{Accepted};
-ghost use Rattle.exposure.specs.Values.{VAF, beforeExcluded, VAF′, fundCheck};
-ghost use Rattle.fund.specs.Fund.{Worths, Fits, added, FundSums, Valued};
+ghost use Rattle.exposure.specs.Values.{fundCheck};
+ghost use Rattle.exposure.specs.Sums.{W};
+ghost use Rattle.parties.specs.Rows.{topsTo, Parties};
+ghost use Rattle.assets.specs.Assets.{FundSums};
+ghost use Rattle.cells.specs.Cells.{Zeros};
+ghost use Rattle.fund.specs.Fund.{Passed, Lent, Drew, Summed, Exposed, LimitsOf, RatedAs, nothing, Made};
 
-// M, the most that an amount read may be, in cents.
-const MOST: u64 = 10_000_000_000_000;
-
-// The sums over all assets: net, net of what is linked; over reinsurance: value, netted, and what each stressed value has above its netted.
-pub struct Values {
-    pub all: u64,
-    pub linked: u64,
-    pub reinsurance: u64,
-    pub netted: u64,
-    pub stressed: u64,
+// The sums over the assets, and those over the exposures that no table holds.
+struct Drawn {
+    values: Values,
+    sums: Sums,
 }
 
-// What one asset adds to each table and sum.
-struct Worth {
-    net: u64,
-    cap: u64,
-    linked: u64,
-    reinsurance: u64,
-    netted: u64,
-    stressed: u64,
+// What the schedule gives for the fund's values.
+struct Limited {
+    vaf: u64,
+    stressed_vaf: u64,
+    limits: [u64; TIERS],
+    a3_limit: u64,
 }
 
-fn only(t: bool, a: u64) -> u64
-    ensures { λ r. ⌜ r ≡ (if t then a else 0) ⌝ }
+// What refusals 14 and 15 find; where they let the fund pass, its limits, its tiers by rank and the header's figures that the groups have no part in,
+// and else zeros.
+pub struct Fund {
+    pub found: Checked,
+    pub limits: [u64; TIERS],
+    pub ranking: [usize; TIERS],
+    pub figures: Figures,
+}
+
+// The passes over assets and mitigants, and the posting of what is covered and what remains.
+fn draw(
+    book: &[u8],
+    groups: usize,
+    words: &[u64],
+    terms: &[u64],
+    rows: &[u16],
+    starts: &mut [u16],
+    caps: &mut [u64],
+    rests: &mut [u64],
+    places: &mut [u16],
+    covered: &mut [u64],
+    cells: &mut [u64],
+) -> Drawn
+    requires { ⌜ (Accepted (now book)) × (groups ≡ topsTo (now book) (C (now book))) × (Parties (now book) (now words) (now terms) (now rows)) × (Lent (now book) (now starts) (now caps) (now rests) (now places) (now covered)) × (Zeros groups (now cells)) ⌝ }
+    ensures tables { λ r. ⌜ Drew (now (book .entry)) groups (now (starts .entry)) (now (caps .entry)) (now (rests .entry)) (now (places .entry)) (now (covered .entry)) (now (cells .entry)) (now (starts .exit)) (now (caps .exit)) (now (rests .exit)) (now (places .exit)) (now (covered .exit)) (now (cells .exit)) ⌝ }
+    ensures sums { λ r. ⌜ Summed (now (book .entry)) (r .values) (r .sums) ⌝ }
 {
-    if t { a } else { 0 }
+    let h = book::header_at(book);
+    let n = h.assets as usize;
+    let k = h.mitigants as usize;
+    let first = book::assets_start(h);
+    let behind = book::mitigants_start(h);
+    let values = assets::fill(
+        book,
+        first,
+        n,
+        words,
+        terms,
+        rows,
+        starts,
+        caps,
+        rests,
+        places,
+    );
+    covering::cover(book, behind, k, terms, starts, caps, rests, covered);
+    let sums = cells::post(
+        book,
+        behind,
+        n,
+        k,
+        groups,
+        words,
+        rows,
+        covered,
+        rests,
+        places,
+        cells,
+    );
+    Drawn { values, sums }
 }
 
-fn worth_of(b: &[u8], place: usize) -> Worth
-    requires { ⌜ (Accepted (now b)) × (0 < place) × (place ≤ N (now b)) ⌝ }
-    ensures { λ r. ⌜ Worths (bookOf (now (b .entry))) (assetAt (now (b .entry)) place) r ⌝ }
+// VAF, VAF′ and the limits.
+fn limits_of(schedule: &[u8], book: &[u8], values: Values, w: u64) -> Limited
+    requires { ⌜ (Passed (now schedule) (now book)) × (fundCheck (bookOf (now book)) ≡ Fine) × (FundSums (now book) values) × (w ≡ W (bookOf (now book))) ⌝ }
+    ensures { λ r. ⌜ LimitsOf (now (schedule .entry)) (now (book .entry)) r ⌝ }
 {
-    let a = book::asset_at(b, place);
-    let from = a.counterparty as usize;
-    let who = book::counterparty_at(b, from);
-    let net = exposure::net_of(a);
-    let ours = book::is_reinsurance(a);
-    let over = exposure::choice::less(exposure::stressed_of(a), a.offsets);
-    Worth {
-        net: net,
-        cap: mitigant::may_cover(a, who, net),
-        linked: only(book::is_linked(a), net),
-        reinsurance: only(ours, a.value),
-        netted: only(ours, a.offsets),
-        stressed: only(ours, over),
+    let s = schedule::schedule_at(schedule);
+    let vaf = values::vaf(book, values);
+    let stressed_vaf = values::stressed_vaf(book, values);
+    let h = book::header_at(book);
+    let base = h.base;
+    Limited {
+        vaf,
+        stressed_vaf,
+        limits: schedule::limits(s, vaf, stressed_vaf, base, w),
+        a3_limit: schedule::a3_limit(s, stressed_vaf, base),
     }
 }
 
-fn add(v: Values, w: Worth) -> Values
-    requires { ⌜ Fits v w ⌝ }
-    ensures { λ r. ⌜ r ≡ added v w ⌝ }
+// A fund that every check of its schedule and book let pass.
+fn rate(
+    schedule: &[u8],
+    book: &[u8],
+    groups: usize,
+    values: Values,
+    sums: Sums,
+    cells: &[u64],
+) -> Fund
+    requires { ⌜ (Passed (now schedule) (now book)) × (fundCheck (bookOf (now book)) ≡ Fine) × (groups ≡ topsTo (now book) (C (now book))) × (Summed (now book) values sums) × (Exposed (now book) groups (now cells)) ⌝ }
+    ensures { λ r. ⌜ RatedAs (now (schedule .entry)) (now (book .entry)) r ⌝ }
 {
-    Values {
-        all: v.all + w.net,
-        linked: v.linked + w.linked,
-        reinsurance: v.reinsurance + w.reinsurance,
-        netted: v.netted + w.netted,
-        stressed: v.stressed + w.stressed,
-    }
-}
-
-// Fills both tables by the assets' places, and gives the sums.
-pub fn value(b: &[u8], n: usize, nets: &mut [u64], caps: &mut [u64]) -> Values
-    requires { ⌜ (Accepted (now b)) × (n ≡ N (now b)) × (n < length (now nets)) × (n < length (now caps)) ⌝ }
-    ensures { λ r. ⌜ Valued (now (b .entry)) (now (nets .entry)) (now (caps .entry)) (now (nets .exit)) (now (caps .exit)) r ⌝ }
-{
-    let mut v = Values {
-        all: 0,
-        linked: 0,
-        reinsurance: 0,
-        netted: 0,
-        stressed: 0,
+    let l = limits_of(schedule, book, values, sums.w);
+    let limits = l.limits;
+    let figures = Figures {
+        vaf: l.vaf,
+        stressed_vaf: l.stressed_vaf,
+        all_net: values.all,
+        unlimited: values.linked + sums.free,
+        a3_sum: a3::sum(cells, limits, groups),
+        a3_limit: l.a3_limit,
     };
-    let mut place = 1;
-    while place <= n {
-        let w = worth_of(b, place);
-        nets[place] = w.net;
-        caps[place] = w.cap;
-        v = add(v, w);
-        place += 1;
+    Fund {
+        found: Checked::Fine,
+        limits,
+        ranking: cascade::rank(limits),
+        figures,
     }
-    v
 }
 
-// VAF′ before excluded assets are taken off.
-fn before_excluded(b: &[u8], v: Values) -> u64
-    requires { ⌜ (Accepted (now b)) × (FundSums (now b) v) ⌝ }
-    ensures { λ r. ⌜ r ≡ beforeExcluded (bookOf (now (b .entry))) ⌝ }
+// A fund that 14 or 15 refuse.
+fn refused(why: Refusal) -> Fund
+    ensures { λ r. ⌜ r ≡ nothing why ⌝ }
 {
-    let total = wire::u64_at(b, 16);
-    exposure::choice::less(total, v.reinsurance) + v.stressed
+    Fund {
+        found: Checked::Bad(why),
+        limits: [0u64; TIERS],
+        ranking: [0usize; TIERS],
+        figures: Figures {
+            vaf: 0,
+            stressed_vaf: 0,
+            all_net: 0,
+            unlimited: 0,
+            a3_sum: 0,
+            a3_limit: 0,
+        },
+    }
 }
 
-pub fn vaf(b: &[u8], v: Values) -> u64
-    requires { ⌜ (Accepted (now b)) × (FundSums (now b) v) ⌝ }
-    ensures { λ r. ⌜ r ≡ VAF (bookOf (now (b .entry))) ⌝ }
+// The fund of a schedule and a book that refusals 1 to 13 let pass, whose counterparties' tables are made.
+pub fn make(
+    schedule: &[u8],
+    book: &[u8],
+    groups: usize,
+    words: &[u64],
+    terms: &[u64],
+    rows: &[u16],
+    starts: &mut [u16],
+    caps: &mut [u64],
+    rests: &mut [u64],
+    places: &mut [u16],
+    covered: &mut [u64],
+    cells: &mut [u64],
+) -> Fund
+    requires { ⌜ (Passed (now schedule) (now book)) × (groups ≡ topsTo (now book) (C (now book))) × (Parties (now book) (now words) (now terms) (now rows)) × (Lent (now book) (now starts) (now caps) (now rests) (now places) (now covered)) × (Zeros groups (now cells)) ⌝ }
+    ensures tables { λ r. ⌜ Drew (now (book .entry)) groups (now (starts .entry)) (now (caps .entry)) (now (rests .entry)) (now (places .entry)) (now (covered .entry)) (now (cells .entry)) (now (starts .exit)) (now (caps .exit)) (now (rests .exit)) (now (places .exit)) (now (covered .exit)) (now (cells .exit)) ⌝ }
+    ensures made { λ r. ⌜ Made (now (schedule .entry)) (now (book .entry)) r ⌝ }
 {
-    exposure::choice::less(wire::u64_at(b, 16), v.netted)
-}
-
-pub fn stressed_vaf(b: &[u8], v: Values) -> u64
-    requires { ⌜ (Accepted (now b)) × (FundSums (now b) v) ⌝ }
-    ensures { λ r. ⌜ r ≡ VAF′ (bookOf (now (b .entry))) ⌝ }
-{
-    exposure::choice::less(before_excluded(b, v), wire::u64_at(b, 32))
-}
-
-// Refusals 14 and 15.
-pub fn fund_check(b: &[u8], v: Values) -> Checked
-    requires { ⌜ (Accepted (now b)) × (FundSums (now b) v) ⌝ }
-    ensures { λ r. ⌜ r ≡ fundCheck (bookOf (now (b .entry))) ⌝ }
-{
-    let total = wire::u64_at(b, 16);
-    let excluded = wire::u64_at(b, 32);
-    let within = (excluded <= before_excluded(b, v)) & (stressed_vaf(b, v) <= MOST);
-    let held = refusal::unless(Refusal::ReinsuranceValues, v.reinsurance <= total);
-    refusal::and_then(held, refusal::unless(Refusal::StressedAssets, within))
+    let drawn = draw(
+        book,
+        groups,
+        words,
+        terms,
+        rows,
+        starts,
+        caps,
+        rests,
+        places,
+        covered,
+        cells,
+    );
+    let values = drawn.values;
+    let sums = drawn.sums;
+    let found = values::check(book, values);
+    match found {
+        Checked::Bad(why) => refused(why),
+        Checked::Fine => rate(schedule, book, groups, values, sums, cells),
+    }
 }

@@ -1,11 +1,10 @@
-// The topmost parent of each counterparty: by recursion, the place falling at each call.
+// The topmost parent of a counterparty: by recursion, the place falling at each call.
 ghost use mathlib.Core.Path.{_≡_};
-ghost use Prim.Native.Nat.{ℕ, _+_, _*_, _≤_, _<_};
-ghost use lib.ListN.{length};
+ghost use Prim.Native.Nat.{_+_, _*_, _≤_, _<_};
 ghost use Rattle.book.specs.Records.{C, counterpartyAt};
-ghost use Rattle.book.specs.Book.{bookOf, parentOf, topOf};
+ghost use Rattle.book.specs.Book.{parentOf, topOf};
 ghost use Rattle.book.specs.Accepted.{Accepted};
-ghost use Rattle.groups.specs.Tops.{Known, Topped};
+ghost use Rattle.groups.specs.Tops.{Known};
 
 // The parent of a place, 0 for none.
 fn parent(book: &[u8], place: usize) -> usize
@@ -16,30 +15,25 @@ fn parent(book: &[u8], place: usize) -> usize
     who.parent as usize
 }
 
-// The topmost parent of a place: read off the table as far as that is filled (0: not at all), else its parent's.
-pub fn top(book: &[u8], table: &[usize], known: usize, place: usize) -> usize
-    requires { ⌜ (Accepted (now book)) × (Known (now book) known (now table)) × (0 < place) × (place ≤ C (now book)) ⌝ }
-    ensures { λ r. ⌜ r ≡ topOf (bookOf (now (book .entry))) place ⌝ }
+// The topmost parent of a place: its parent's, or itself where it has none.
+fn top(book: &[u8], place: usize) -> u16
+    requires { ⌜ (Accepted (now book)) × (0 < place) × (place ≤ C (now book)) ⌝ }
+    ensures { λ r. ⌜ r ≡ topOf (counterpartyAt (now (book .entry))) place ⌝ }
+{
+    let up = parent(book, place);
+    if up == 0 {
+        return place as u16;
+    }
+    top(book, up)
+}
+
+// The same, read off a table as far as that is filled. Place 0, which is nobody, has 0.
+pub fn top_of(book: &[u8], table: &[u16], known: usize, place: usize) -> u16
+    requires { ⌜ (Accepted (now book)) × (Known (now book) known (now table)) × (place ≤ C (now book)) ⌝ }
+    ensures { λ r. ⌜ r ≡ topOf (counterpartyAt (now (book .entry))) place ⌝ }
 {
     if place <= known {
         return table[place];
     }
-    let up = parent(book, place);
-    if up == 0 {
-        return place;
-    }
-    top(book, table, known, up)
-}
-
-// The topmost parent of every place. In rising order a place's parent is known before it, so each takes at most two calls of `top`.
-pub fn tops(book: &[u8], c: usize, table: &mut [usize])
-    requires { ⌜ (Accepted (now book)) × (c ≡ C (now book)) × (c < length (now table)) ⌝ }
-    ensures { λ r. ⌜ Topped (now (book .entry)) c (now (table .entry)) (now (table .exit)) ⌝ }
-{
-    let mut place = 1;
-    while place <= c {
-        let t = top(book, table, place - 1, place);
-        table[place] = t;
-        place += 1;
-    }
+    top(book, place)
 }

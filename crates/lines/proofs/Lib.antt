@@ -1,7 +1,11 @@
 pub mod Putting
-pub mod Rows
-pub mod Tiers
+pub mod Tries
+pub mod Entries
+pub mod Along
+pub mod Among
+pub mod Heads
+pub mod Turn
 pub mod Groups
-pub mod Counting
+pub mod Writing
 pub mod Whole
 pub mod Cases

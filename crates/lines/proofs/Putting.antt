@@ -23,10 +23,6 @@ pub put-start : (r₀ : List ℕ) (at : ℕ) (whole : List ℕ) → Putting r₀
 put-start r₀ at whole = record { done = []; split = refl; place = omega arith; size = refl; bytes = put-none r₀ at }
 
 module _ {r₀ : List ℕ} {at : ℕ} {whole r : List ℕ} {p : ℕ} {more : List ℕ} (w : Putting r₀ at whole r p more) (h : at + length whole ≤ length r₀) where
-  pub put-room : (new rest : List ℕ) → more ≡ new ++ rest → p + length new ≤ length r
-  put-room new rest e =
-      omega (arith, w .place, w .size, ap length (w .split), length-append (w .done) more, ap length e, length-append new rest)
-
   pub put-piece : (new rest : List ℕ) {u : List ℕ} {q : ℕ} → more ≡ new ++ rest → q ≡ p + length new → length u ≡ length r → u ≡ placed r p new → Putting r₀ at whole u q rest
   put-piece new rest {u} {q} e eq lu eu =
       let room : at + length (w .done) + length new ≤ length r₀ = omega (arith, ap length (w .split), length-append (w .done) more, ap length e, length-append new rest) in

@@ -1,73 +1,126 @@
--- Lines and header together are the report.
-use mathlib.Core.Path.{_≡_, refl, ap, sym, _∙_}
+-- The report of a table that is listed: its lines along the list, and the header before them.
+use mathlib.Core.Path.{_≡_, ap, sym, _∙_}
 use mathlib.Core.List.{List, _++_}
 use Prim.Native.Nat.{ℕ, _+_, _*_, _-_, _≤_}
 use native.Mathlib.Omega.{arith}
-use lib.ListN.{length, drop}
-use Rattle.wire.specs.Bytes.{placed}
+use lib.ListN.{length, take, drop}
+use lib.Seq.{length-take-le}
+use Rattle.words.specs.Words.{sumOf}
+use Rattle.wire.specs.Bytes.{M, placed}
 use Rattle.wire.proofs.Laws.{placed-before}
-use Rattle.cascade.specs.Cascade.{tiers}
+use Rattle.cascade.specs.Cascade.{tiers, byTier, byLimit, ranked}
+use Rattle.cascade.proofs.Ranking.{ranked-only, ranked-lists, length-ranked}
 use Rattle.figures.specs.declared.Head.{Head}
+use Rattle.figures.specs.declared.Line.{Line}
+use Rattle.figures.specs.declared.Figures.{Figures}
 use Rattle.figures.specs.Fund.{Fund}
-use Rattle.figures.specs.Report.{headSize, tierSet, lineOf, cellLines, linesOf, groupExcess, charge, joined, headBytes, headOf, report}
+use Rattle.figures.specs.Report.{headSize, lineSize, linesOf, groupExcess, charge, joined, headBytes, headOf, report}
+use Rattle.figures.proofs.Least.{excess-lines}
 use Rattle.figures.proofs.Written.{head-long}
-use Rattle.figures.proofs.Size.{lines-most, joined-long, report-long}
-use Rattle.lines.specs.declared.Figures.{Figures}
-use Rattle.lines.specs.Table.{tableFund, linesFund}
-use Rattle.lines.specs.Promise.{allExposures}
-use Rattle.lines.proofs.Groups.{excess-less-all}
+use Rattle.figures.proofs.Size.{joined-long}
+use Rattle.lines.specs.Table.{Heads, tableFund}
+use Rattle.lines.specs.Listing.{exposureIn, shown, allEntries, entriesOf, tried, Source, linesAlong, noGroup, listedLines}
+use Rattle.lines.specs.Promise.{Once, Listable, Listed, Entries, Table, allExposures}
+use Rattle.lines.proofs.Tries.{tried-long, tried-first}
+use Rattle.lines.proofs.Entries.{all-long, all-inside, entries-few, entries-sum}
+use Rattle.lines.proofs.Along.{along-long, along-within}
+use Rattle.lines.proofs.Heads.{lines-along}
+use Rattle.lines.proofs.Groups.{set-each}
+use Rattle.lines.proofs.Writing.{excesses}
 
-module _ (limits cells : List ℕ) (groups : ℕ) (f : Figures) where
-  abbrev F : Fund
-  F = tableFund limits cells groups f
+-- the tiers by rank have each tier once
+pub ranked-once : (limits : List ℕ) → Once tiers (ranked (byLimit (byTier limits)) tiers)
+ranked-once limits = let r = ranked-lists (byLimit (byTier limits)) tiers in record { inside = r .only; once = r .once }
 
-  abbrev W : Fund
-  W = linesFund limits cells groups
+-- the header of n lines whose excesses add up to x, where the A3 sum is so much above the A3 limit
+abbrev pub headWith : Figures → (n x over : ℕ) → Head
+headWith f n x over =
+    record {
+      lines = n;
+      vaf = f .vaf;
+      «stressed_vaf» = f .«stressed_vaf»;
+      «all_net» = f .«all_net»;
+      unlimited = f .unlimited;
+      «group_excess» = x;
+      «a3_sum» = f .«a3_sum»;
+      «a3_limit» = f .«a3_limit»;
+      charge = x + over;
+    }
 
-  lines-own : linesOf W ≡ linesOf F
-  unfolding cellLines lineOf tierSet tableFund
-  lines-own = refl
+module _ {S : Source} {list : List ℕ} {groups n : ℕ} (t : Table S list groups n) where
+  abbrev by-rank : List ℕ
+  by-rank = ranked (byLimit (byTier (S .limits))) tiers
 
-  excess-own : groupExcess W ≡ groupExcess F
-  unfolding groupExcess tableFund
-  excess-own = refl
+  abbrev pub along : List Line
+  along = listedLines S list n
 
-  pub excess-most : groupExcess W ≤ allExposures cells groups
-  unfolding groupExcess tableFund
-  excess-most = excess-less-all limits cells groups groups
+  amounts : sumOf (exposureIn (S .cells)) (take n list) ≤ 900 * M
+  amounts = rw (t .entries) (omega (arith, t .amounts, entries-sum by-rank (ranked-once (S .limits)) (S .cells) groups))
 
-  pub lines-few : length (linesOf F) ≤ groups * tiers
-  unfolding tableFund
-  lines-few = lines-most F
+  pub table-entries : (room : ℕ) → headSize + lineSize * n ≤ room → Entries S list n room
+  table-entries room h =
+      record {
+        long = t .long;
+        inside = rw (t .entries) (all-inside by-rank (ranked-only (byLimit (byTier (S .limits))) tiers) S groups (t .rows) (t .places) (t .tops));
+        amounts = amounts;
+        fits = h;
+      }
 
-  pub lines-room : (k : ℕ) → length (report F) ≤ k → headSize + length (joined (linesOf W)) ≤ k
-  lines-room k h = rw lines-own (omega (arith, report-long F, joined-long (linesOf F)))
+  pub lines-few : n ≤ 6500
+  lines-few =
+      omega (arith, length-take-le n list (t .long), ap length (t .entries), t .few, entries-few by-rank (ranked-once (S .limits)) (S .cells) groups (length-ranked (byLimit (byTier (S .limits))) tiers))
 
-  -- the header's figures
-  pub head-is : (n x over : ℕ) → n ≡ length (linesOf F) → x ≡ groupExcess W → over ≡ f .«a3_sum» - f .«a3_limit»
-      → _≡_ {A = Head}
-      (record {
-        lines = n;
-        vaf = f .vaf;
-        «stressed_vaf» = f .«stressed_vaf»;
-        «all_net» = f .«all_net»;
-        unlimited = f .unlimited;
-        «group_excess» = x;
-        «a3_sum» = f .«a3_sum»;
-        «a3_limit» = f .«a3_limit»;
-        charge = x + over;
-      })
-      (headOf F)
-  unfolding headOf charge tableFund
-  head-is n x over p q r = rw (p, q, r, excess-own)
+  pub excess-few : excesses along ≤ 900 * M
+  excess-few = omega (arith, amounts, along-within S (take n list) noGroup 0)
 
-  -- the lines, then the header before them
-  pub report-put : (before mid after : List ℕ) (h : Head) → h ≡ headOf F → length (report F) ≤ length before
-      → mid ≡ placed before headSize (joined (linesOf W)) → after ≡ placed mid 0 (headBytes h) → after ≡ report F ++ drop (length (report F)) before
-  unfolding report
-  report-put before mid after h e room p q =
-      let z : 0 + length (headBytes (headOf F) ++ joined (linesOf F)) ≡ length (headBytes (headOf F) ++ joined (linesOf F)) = omega arith in
-      q ∙ ap (λ (m : List ℕ). placed m 0 (headBytes h)) (rw lines-own at p) ∙ ap (λ (x : Head). placed (placed before headSize (joined (linesOf F))) 0 (headBytes x)) e
-      ∙ ap (λ (k : ℕ). placed (placed before k (joined (linesOf F))) 0 (headBytes (headOf F))) (sym (head-long (headOf F)))
-      ∙ placed-before before (headBytes (headOf F)) (joined (linesOf F)) (omega (arith, head-long (headOf F), report-long F, joined-long (linesOf F)))
-      ∙ ap (λ (k : ℕ). headBytes (headOf F) ++ joined (linesOf F) ++ drop k before) z
+  module _ {places : ℕ} (H : Heads (S .heads) places groups) (f : Figures) where
+    abbrev F : Fund
+    F = tableFund (S .limits) (S .cells) (S .heads) places groups f
+
+    lines-are : along ≡ linesOf F
+    lines-are = ap (linesAlong S noGroup 0) (t .entries) ∙ sym (lines-along S H (t .few) (t .each) f)
+
+    pub count-is : n ≡ length (linesOf F)
+    count-is = sym (length-take-le n list (t .long)) ∙ sym (along-long S (take n list) noGroup 0) ∙ ap length lines-are
+
+    head-is : (x over : ℕ) → x ≡ excesses along → over ≡ f .«a3_sum» - f .«a3_limit» → headWith f n x over ≡ headOf F
+    unfolding headOf charge tableFund
+    head-is x over q r = let e : x ≡ groupExcess F = q ∙ ap excesses lines-are ∙ sym (excess-lines F) in rw (count-is, e, r)
+
+    -- the lines, then the header before them
+    pub report-put :
+        (x over : ℕ) → x ≡ excesses along → over ≡ f .«a3_sum» - f .«a3_limit» → (start mid end : List ℕ) → headSize + lineSize * n ≤ length start
+        → mid ≡ placed start headSize (joined along)
+        → end ≡ placed mid 0 (headBytes (headWith f n x over))
+        → end ≡ report F ++ drop (length (report F)) start
+    unfolding report
+    report-put x over hx ho start mid end room p q =
+        let head = headBytes (headOf F) in
+        let lines = joined (linesOf F) in
+        let z : 0 + length (head ++ lines) ≡ length (head ++ lines) = omega arith in
+        q ∙ ap (λ (h : Head). placed mid 0 (headBytes h)) (head-is x over hx ho)
+        ∙ ap (λ (m : List ℕ). placed m 0 head) (p ∙ ap (λ (xs : List Line). placed start headSize (joined xs)) lines-are)
+        ∙ ap (λ (k : ℕ). placed (placed start k lines) 0 head) (sym (head-long (headOf F)))
+        ∙ placed-before start head lines (omega (arith, head-long (headOf F), joined-long (linesOf F), count-is))
+        ∙ ap (λ (k : ℕ). head ++ lines ++ drop k start) z
+
+-- a table that `list_lines` has listed by the rank that the limits give
+pub listed-table :
+    (S : Source) {groups : ℕ} {sets₀ list₀ list : List ℕ} {n : ℕ}
+    → Listable (S .cells) groups (ranked (byLimit (byTier (S .limits))) tiers) sets₀ list₀ → Listed (S .cells) groups (ranked (byLimit (byTier (S .limits))) tiers) sets₀ (S .sets) list₀ list n
+    → length (S .sets) ≡ length sets₀ → groups ≤ length (S .heads) → allExposures (S .cells) groups ≤ 900 * M → Table S list groups n
+listed-table S {groups} {sets₀} {list₀} {list} {n} a l size tops few =
+    let order = ranked (byLimit (byTier (S .limits))) tiers in
+    let o = ranked-once (S .limits) in
+    let z : 0 + length (entriesOf (S .cells) groups order) ≡ n = omega (arith, l .count) in
+    let all : length (allEntries groups order) ≡ tiers * groups = all-long order (length-ranked (byLimit (byTier (S .limits))) tiers) groups in
+    record {
+      few = a .few;
+      rows = a .rows;
+      places = omega (arith, a .places);
+      tops = tops;
+      long = omega (arith, ap length (l .entries), tried-long (shown (S .cells)) (allEntries groups order) 0 list₀, l .few, a .room);
+      each = set-each (S .cells) groups sets₀ (l .tierSets);
+      entries = ap (take n) (l .entries) ∙ ap (λ (k : ℕ). take k (tried (shown (S .cells)) 0 (allEntries groups order) list₀)) (sym z) ∙ tried-first (shown (S .cells)) (allEntries groups order) 0 list₀ (omega (arith, a .room));
+      amounts = few;
+    }

@@ -1,2 +1,3 @@
 pub mod Table
+pub mod Listing
 pub mod Promise

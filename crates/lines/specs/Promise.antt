@@ -1,49 +1,89 @@
--- What the writer starts from and promises.
+-- What `list_lines` and `put_report` start from and promise.
+--   Once           every tier once
+--   Listable       what a listing starts from
+--   Listed         the number of lines, the sets of the groups' tiers, and the list of entries
+--   allExposures   all exposures of the groups in the tiers
+--   Inside         an entry that a list may have
+--   Entries        a list of entries whose lines can be put
+--   Table          a table that is listed
+--   Ready          what a report is put from
+--   Reported       the report of a table is put
 use mathlib.Core.Path.{_≡_}
-use mathlib.Core.List.{List, map}
+use mathlib.Core.List.{List, _++_, map}
 use Prim.Native.Nat.{ℕ, _+_, _*_, _≤_, _<_}
-use lib.ListN.{length, getD}
-use Rattle.words.specs.Words.{sum, countFrom}
+use lib.ListN.{length, getD, take, drop}
+use Rattle.words.specs.Words.{sum, sumOf, countFrom, All}
 use Rattle.wire.specs.Bytes.{M, placed}
 use Rattle.cascade.specs.Cascade.{tiers, byTier, byLimit, ranked}
-use Rattle.figures.specs.Fund.{Fund}
-use Rattle.figures.specs.Report.{ranking, excessSumOf, groupLines, linesOf, joined, report}
-use Rattle.lines.specs.declared.Figures.{Figures}
-use Rattle.lines.specs.declared.Put.{Put}
-use Rattle.lines.specs.Table.{columns, row, setOf, tableFund}
+use Rattle.figures.specs.declared.Figures.{Figures}
+use Rattle.figures.specs.Report.{headSize, lineSize, linesOf, report}
+use Rattle.rows.specs.Rows.{columns, row}
+use Rattle.lines.specs.Table.{setOf, Heads, tableFund}
+use Rattle.lines.specs.Listing.{groupIn, tierIn, exposureIn, shown, allEntries, entriesOf, tried, Source}
 
--- all exposures of the groups 1 .. groups in the tiers
-abbrev pub allExposures : List ℕ → ℕ → ℕ
-allExposures cells groups = sum (λ k. sum (byTier (row cells (k + 1))) tiers) groups
+-- every tier below n stands in the ranking once, and nothing else
+pub record Once (n : ℕ) (ranking : List ℕ) : Type 0 where
+  pub inside : All (λ t. t < n) ranking
+  pub once : (f : ℕ → ℕ) → sumOf f ranking ≡ sum f n
 
--- n is the number of lines, whatever the limits and figures are; and the set of group g's tiers is at place g, all else as before
-pub record Counted (cells : List ℕ) (groups : ℕ) (before after : List ℕ) (n : ℕ) : Type 0 where
-  pub lines : (limits : List ℕ) (figures : Figures) → n ≡ length (linesOf (tableFund limits cells groups figures))
-  pub sets : after ≡ placed before 1 (map (λ g. setOf (row cells g)) (countFrom 1 groups))
-
--- what the lines of groups 1 .. groups are put from: limits, the tiers by rank, a table of cells and the sets of the groups' tiers.
--- All exposures are parts of the nets of "N ≤ 900" assets, "each one read at most M".
-pub record Table (limits tiersByRank cells sets : List ℕ) (groups : ℕ) : Type 0 where
+-- a row to each group, an entry of sets to each, and room for an entry to each tier
+pub record Listable (cells : List ℕ) (groups : ℕ) (ranking sets list : List ℕ) : Type 0 where
   pub few : groups ≤ 500
-  pub ranks : tiersByRank ≡ ranked (byLimit (byTier limits)) tiers
-  pub rows : columns * (groups + 1) ≤ length cells
-  pub places : groups < length sets
-  pub each : (g : ℕ) → 1 ≤ g → g ≤ groups → getD sets g 0 ≡ setOf (row cells g)
-  pub amounts : allExposures cells groups ≤ 900 * M
+  pub rows : columns * groups ≤ length cells
+  pub places : groups ≤ length sets
+  pub room : tiers * groups ≤ length list
+  pub ranks : Once tiers ranking
 
--- what a report is put from: the table, the number of its lines, figures whose charge fits, and bytes enough
-pub record Ready (limits tiersByRank cells sets : List ℕ) (groups n : ℕ) (figures : Figures) (room : ℕ) : Type 0 where
-  pub table : Table limits tiersByRank cells sets groups
-  pub lines : n ≡ length (linesOf (tableFund limits cells groups figures))
+-- n is the number of lines, whatever the limits, top places and figures are: an entry for each, which the list has first.
+-- Behind them stands at the most an entry that was tried last. The set of each group's tiers is at its number; all else is as before.
+pub record Listed (cells : List ℕ) (groups : ℕ) (ranking sets₀ sets list₀ list : List ℕ) (n : ℕ) : Type 0 where
+  pub lines : (limits heads : List ℕ) (places : ℕ) (figures : Figures) → Heads heads places groups → n ≡ length (linesOf (tableFund limits cells heads places groups figures))
+  pub count : n ≡ length (entriesOf cells groups ranking)
+  pub few : n ≤ tiers * groups
+  pub tierSets : sets ≡ placed sets₀ 0 (map (λ k. setOf (row cells k)) (countFrom 0 groups))
+  pub entries : list ≡ tried (shown cells) 0 (allEntries groups ranking) list₀
+
+-- all exposures of the groups in the tiers
+abbrev pub allExposures : List ℕ → ℕ → ℕ
+allExposures cells groups = sum (λ k. sum (byTier (row cells k)) tiers) groups
+
+-- an entry of a group and a tier of the table
+pub record Inside (S : Source) (e : ℕ) : Type 0 where
+  pub tier : tierIn e < tiers
+  pub cell : columns * (groupIn e + 1) ≤ length (S .cells)
+  pub set : groupIn e < length (S .sets)
+  pub head : groupIn e < length (S .heads)
+
+-- the first n entries of a list, of amounts that can be added up, and room for their lines
+pub record Entries (S : Source) (list : List ℕ) (n room : ℕ) : Type 0 where
+  pub long : n ≤ length list
+  pub inside : All (Inside S) (take n list)
+  pub amounts : sumOf (exposureIn (S .cells)) (take n list) ≤ 900 * M
+  pub fits : headSize + lineSize * n ≤ room
+
+-- the groups' sets of tiers, and the entries of the lines by the rank that the limits give.
+-- All exposures are parts of the nets of "N ≤ 900" assets, "each one read at most M".
+pub record Table (S : Source) (list : List ℕ) (groups n : ℕ) : Type 0 where
+  pub few : groups ≤ 500
+  pub rows : columns * groups ≤ length (S .cells)
+  pub places : groups ≤ length (S .sets)
+  pub tops : groups ≤ length (S .heads)
+  pub long : n ≤ length list
+  pub each : (k : ℕ) → k < groups → getD (S .sets) k 0 ≡ setOf (row (S .cells) k)
+  pub entries : take n list ≡ entriesOf (S .cells) groups (ranked (byLimit (byTier (S .limits))) tiers)
+  pub amounts : allExposures (S .cells) groups ≤ 900 * M
+
+-- a table, the number of its lines, figures whose charge fits, and bytes enough
+pub record Ready (S : Source) (list : List ℕ) (n : ℕ) (figures : Figures) (room : ℕ) : Type 0 where
+  pub groups : ℕ
+  pub places : ℕ
+  pub table : Table S list groups n
+  pub heads : Heads (S .heads) places groups
   pub a3 : figures .«a3_sum» ≤ 3750 * M
-  pub fits : length (report (tableFund limits cells groups figures)) ≤ room
+  pub fits : headSize + lineSize * n ≤ room
 
--- the bytes of the lines of group g
-abbrev pub groupBytes : Fund → ℕ → List ℕ
-groupBytes F g = joined (groupLines F g (ranking F))
-
--- the lines of group g are put at a place: the bytes, the place behind them, and the group's excesses summed
-pub record GroupPut (F : Fund) (g at : ℕ) (before after : List ℕ) (put : Put) : Type 0 where
-  pub bytes : after ≡ placed before at (groupBytes F g)
-  pub behind : put .place ≡ at + length (groupBytes F g)
-  pub excesses : put .excess ≡ excessSumOf F g
+-- the report of the table, whatever the places are that the top places are among; no byte behind it changes
+abbrev pub Reported : Source → (list : List ℕ) → (n : ℕ) → Figures → (before after : List ℕ) → Type 0
+Reported S list n figures before after =
+    (places groups : ℕ) → Heads (S .heads) places groups → Table S list groups n
+    → after ≡ report (tableFund (S .limits) (S .cells) (S .heads) places groups figures) ++ drop (length (report (tableFund (S .limits) (S .cells) (S .heads) places groups figures))) before

@@ -1,49 +1,30 @@
-// The writer of a report: the lines of each group, put straight into the lent bytes, then the header.
+// The writer of a report: a list of the tiers that have a line, group by group; each line put straight into the lent bytes; then the header.
 use cascade::TIERS;
+use figures::Figures;
 use figures::Head;
 use figures::Line;
+use rows::COLUMNS;
 ghost use mathlib.Core.Path.{_≡_};
-ghost use mathlib.Core.List.{_++_, _∷_, []};
-ghost use Prim.Native.Nat.{ℕ, _+_, _*_, _-_, _≤_, _<_, _^_};
-ghost use lib.ListN.{length, getD, drop};
-ghost use Rattle.words.specs.Words.{sum, eachOf};
+ghost use mathlib.Core.List.{_++_, _∷_, [], map};
+ghost use Prim.Native.Nat.{_+_, _≤_, _<_};
+ghost use lib.ListN.{length};
+ghost use Rattle.words.specs.Words.{_<?_, sumOf};
 ghost use Rattle.wire.specs.Bytes.{bytes64, placed};
-ghost use Rattle.cascade.specs.Cascade.{tiers, byTier, byLimit, ranked};
-ghost use Rattle.figures.specs.Report.{headSize, lineSize, joined, lineBytes, headBytes, linesOf, groupExcess, report};
-ghost use Rattle.lines.specs.Table.{columns, row, setOf, tableFund, linesFund, shown, tierLines};
-ghost use Rattle.lines.specs.Promise.{Counted, Table, Ready, groupBytes, GroupPut};
+ghost use Rattle.cascade.specs.Cascade.{tiers, byTier};
+ghost use Rattle.figures.specs.Report.{headSize, lineSize, joined, lineBytes, headBytes};
+ghost use Rattle.lines.specs.Table.{setOf};
+ghost use Rattle.lines.specs.Listing.{entry, tierIn, tried, source, listedLines};
+ghost use Rattle.lines.specs.Promise.{Once, Listable, Listed, Entries, Ready, Reported};
 
-const COLUMNS: usize = 14;
+pub const HEAD: usize = 72;
 
-const HEAD: usize = 72;
+pub const LINE: usize = 40;
 
-const LINE: usize = 40;
+// An entry of the list is so much for each group before its own, and its tier.
+const SPAN: usize = 16;
 
-// The header's figures that the groups have no part in.
-pub struct Figures {
-    pub vaf: u64,
-    pub stressed_vaf: u64,
-    pub all_net: u64,
-    pub unlimited: u64,
-    pub a3_sum: u64,
-    pub a3_limit: u64,
-}
-
-// A group: its top place, the set of its tiers, and the amounts of its lines by tier.
-struct Group {
-    top: u16,
-    tiers: u16,
-    limits: [u64; TIERS],
-    exposures: [u64; TIERS],
-    left: [u64; TIERS],
-    excess: [u64; TIERS],
-}
-
-// The place behind a group's lines, and its excesses summed.
-struct Put {
-    place: usize,
-    excess: u64,
-}
+// No group has this number.
+const NONE: usize = 65535;
 
 // Four amounts.
 fn put_four(d: &mut [u8], at: usize, a: u64, b: u64, c: u64, e: u64)
@@ -107,179 +88,114 @@ fn put_head(d: &mut [u8], head: Head)
     );
 }
 
-// A line, where its exposure is above 0; the place behind it.
-fn put_shown(d: &mut [u8], at: usize, line: Line) -> usize
-    requires { ⌜ at + length (joined (shown line)) ≤ length (now d) ⌝ }
-    ensures { λ r. ⌜ (r ≡ at + length (joined (shown line))) × (now (d .exit) ≡ placed (now (d .entry)) at (joined (shown line))) ⌝ }
+// The entries of group number k's lines, put into list from `at` on along the ranking; the set of the group's tiers.
+// Every tier is put at the place reached, which moves on where the exposure is above 0: no branch on an exposure.
+fn list_group(
+    list: &mut [u16],
+    at: usize,
+    k: usize,
+    exposures: [u64; TIERS],
+    ranking: [usize; TIERS],
+) -> u16
+    requires { ⌜ (k < 500) × (at + tiers ≤ length (now list)) × Once tiers ranking ⌝ }
+    ensures { λ r. ⌜ (r ≡ setOf exposures) × (now (list .exit) ≡ tried (λ e. 0 <? byTier exposures (tierIn e)) at (map (entry k) ranking) (now (list .entry))) ⌝ }
 {
-    if line.exposure == 0 {
-        return at;
-    }
-    put_line(d, at, line);
-    at + LINE
-}
-
-// A group's lines, tiers by rank; the place behind them.
-fn put_tiers(d: &mut [u8], at: usize, group: Group, ranking: [usize; TIERS]) -> usize
-    requires { ⌜ ((i : ℕ) → i < tiers → getD ranking i 0 < tiers) × (at + length (joined (eachOf (tierLines group) ranking)) ≤ length (now d)) ⌝ }
-    ensures { λ r. ⌜ (r ≡ at + length (joined (eachOf (tierLines group) ranking))) × (now (d .exit) ≡ placed (now (d .entry)) at (joined (eachOf (tierLines group) ranking))) ⌝ }
-{
-    let limits = group.limits;
-    let exposures = group.exposures;
-    let left = group.left;
-    let excess = group.excess;
     let mut place = at;
+    let mut set: u64 = 0;
     let mut i = 0;
     while i < TIERS {
         let t = ranking[i];
-        let line = Line {
-            top: group.top,
-            tier: t as u8,
-            tiers: group.tiers,
-            exposure: exposures[t],
-            limit: limits[t],
-            left: left[t],
-            excess: excess[t],
-        };
-        place = put_shown(d, place, line);
+        let some = choice::one(0 < exposures[t]);
+        list[place] = (SPAN * k + t) as u16;
+        place += some as usize;
+        set += some << (t as u64);
         i += 1;
     }
-    place
+    set as u16
 }
 
-// The exposures of group g by tier.
-fn row_of(cells: &[u64], g: usize) -> [u64; TIERS]
-    requires { ⌜ columns * (g + 1) ≤ length (now cells) ⌝ }
-    ensures { λ r. ⌜ r ≡ row (now (cells .entry)) g ⌝ }
-{
-    let start = COLUMNS * g;
-    let mut out = [0u64; TIERS];
-    let mut t = 0;
-    while t < TIERS {
-        let from = start + t;
-        out[t] = cells[from];
-        t += 1;
-    }
-    out
-}
-
-// The set of the tiers whose exposure is above 0: bit n is tier n.
-fn set_of(exposures: [u64; TIERS]) -> u16
-    ensures { λ r. ⌜ r ≡ setOf exposures ⌝ }
-{
-    let mut set: u16 = 0;
-    let mut bit: u16 = 1;
-    let mut t = 0;
-    while t < TIERS {
-        if 0 < exposures[t] {
-            set += bit;
-        }
-        bit = bit * 2;
-        t += 1;
-    }
-    set
-}
-
-// How many lines the groups have: the ones of their sets of tiers, which go to the groups' places in sets.
-pub fn count_lines(cells: &[u64], groups: usize, sets: &mut [u16]) -> usize
-    requires { ⌜ (groups ≤ 500) × (columns * (groups + 1) ≤ length (now cells)) × (groups < length (now sets)) ⌝ }
-    ensures { λ r. ⌜ Counted (now (cells .entry)) groups (now (sets .entry)) (now (sets .exit)) r ⌝ }
+// How many lines the groups have: the ones of their sets of tiers, which go to sets by the groups' numbers. The lines' entries go to list.
+pub fn list_lines(
+    cells: &[u64],
+    groups: usize,
+    ranking: [usize; TIERS],
+    sets: &mut [u16],
+    list: &mut [u16],
+) -> usize
+    requires { ⌜ Listable (now cells) groups ranking (now sets) (now list) ⌝ }
+    ensures { λ r. ⌜ Listed (now (cells .entry)) groups ranking (now (sets .entry)) (now (sets .exit)) (now (list .entry)) (now (list .exit)) r ⌝ }
 {
     let mut lines: usize = 0;
-    let mut g = 1;
-    while g <= groups {
-        let exposures = row_of(cells, g);
-        let set = set_of(exposures);
-        sets[g] = set;
+    let mut k = 0;
+    while k < groups {
+        let exposures = rows::row_of(cells, k);
+        let set = list_group(list, lines, k, exposures, ranking);
+        sets[k] = set;
         lines += u16::count_ones(set) as usize;
-        g += 1;
+        k += 1;
     }
     lines
 }
 
-// The lines of group g. A group without tiers has none, and no cascade.
-fn put_group(
-    d: &mut [u8],
-    at: usize,
-    limits: [u64; TIERS],
-    ranking: [usize; TIERS],
-    cells: &[u64],
-    g: usize,
-    set: u16,
-) -> Put
-    requires { ⌜ (g ≤ 500) × (columns * (g + 1) ≤ length (now cells)) × (set ≡ setOf (row (now cells) g)) × (sum (byTier (row (now cells) g)) tiers < 2 ^ 64) × (ranking ≡ ranked (byLimit (byTier limits)) tiers) × (at + length (groupBytes (linesFund limits (now cells) g) g) ≤ length (now d)) ⌝ }
-    ensures { λ r. ⌜ GroupPut (linesFund limits (now (cells .entry)) g) g at (now (d .entry)) (now (d .exit)) r ⌝ }
-{
-    if set == 0 {
-        return Put {
-            place: at,
-            excess: 0,
-        };
-    }
-    let exposures = row_of(cells, g);
-    let outcome = cascade::cascade(limits, exposures, ranking);
-    let left = outcome.left;
-    let excess = outcome.excess;
-    let group = Group {
-        top: g as u16,
-        tiers: set,
-        limits,
-        exposures,
-        left,
-        excess,
-    };
-    let place = put_tiers(d, at, group, ranking);
-    let sum = cascade::excess_sum(excess);
-    Put { place, excess: sum }
-}
-
-// The lines of all groups by top place, behind the header; all their excesses summed.
-fn put_groups(
+// The lines along a list of entries, behind the header; their excesses summed. What stands is 0 again where the group changes.
+fn put_list(
     d: &mut [u8],
     limits: [u64; TIERS],
-    ranking: [usize; TIERS],
     cells: &[u64],
     sets: &[u16],
-    groups: usize,
+    heads: &[u16],
+    list: &[u16],
+    lines: usize,
 ) -> u64
-    requires { ⌜ (Table limits ranking (now cells) (now sets) groups) × (headSize + length (joined (linesOf (linesFund limits (now cells) groups))) ≤ length (now d)) ⌝ }
-    ensures { λ r. ⌜ (r ≡ groupExcess (linesFund limits (now (cells .entry)) groups)) × (now (d .exit) ≡ placed (now (d .entry)) headSize (joined (linesOf (linesFund limits (now (cells .entry)) groups)))) ⌝ }
+    requires { ⌜ Entries (source limits (now cells) (now sets) (now heads)) (now list) lines (length (now d)) ⌝ }
+    ensures { λ r. ⌜ (r ≡ sumOf (λ x. x .excess) (listedLines (source limits (now (cells .entry)) (now (sets .entry)) (now (heads .entry))) (now (list .entry)) lines)) × (now (d .exit) ≡ placed (now (d .entry)) headSize (joined (listedLines (source limits (now (cells .entry)) (now (sets .entry)) (now (heads .entry))) (now (list .entry)) lines))) ⌝ }
 {
-    let mut place = HEAD;
-    let mut total: u64 = 0;
-    let mut g = 1;
-    while g <= groups {
-        let put = put_group(d, place, limits, ranking, cells, g, sets[g]);
-        place = put.place;
-        total += put.excess;
-        g += 1;
+    let mut excesses: u64 = 0;
+    let mut standing: u64 = 0;
+    let mut last = NONE;
+    let mut i = 0;
+    while i < lines {
+        let entry = list[i] as usize;
+        let k = entry / SPAN;
+        let t = entry % SPAN;
+        let under = choice::amount(k == last, standing, 0);
+        let exposure = cells[COLUMNS * k + t];
+        let limit = limits[t];
+        let cut = cascade::cut(limit, exposure, under);
+        let line = Line {
+            top: heads[k],
+            tier: t as u8,
+            tiers: sets[k],
+            exposure,
+            limit,
+            left: cut.left,
+            excess: cut.excess,
+        };
+        put_line(d, HEAD + LINE * i, line);
+        standing = cut.standing;
+        excesses += cut.excess;
+        last = k;
+        i += 1;
     }
-    total
+    excesses
 }
 
-// What, if anything, a has above b.
-fn above(a: u64, b: u64) -> u64
-    ensures { λ r. ⌜ r ≡ a - b ⌝ }
-{
-    if a < b { 0 } else { a - b }
-}
-
-// The report of a table of exposures: its lines, then the header, which has their excesses. No byte behind the report changes.
+// The report of a table that is listed: its lines, then the header, which has their excesses. No byte behind the report changes.
 pub fn put_report(
     buffer: &mut [u8],
     limits: [u64; TIERS],
-    ranking: [usize; TIERS],
     cells: &[u64],
     sets: &[u16],
-    groups: usize,
+    heads: &[u16],
+    list: &[u16],
     lines: usize,
     figures: Figures,
 )
-    requires { ⌜ Ready limits ranking (now cells) (now sets) groups lines figures (length (now buffer)) ⌝ }
-    ensures { λ _. ⌜ now (buffer .exit) ≡ report (tableFund limits (now (cells .entry)) groups figures) ++ drop (length (report (tableFund limits (now (cells .entry)) groups figures))) (now (buffer .entry)) ⌝ }
+    requires { ⌜ Ready (source limits (now cells) (now sets) (now heads)) (now list) lines figures (length (now buffer)) ⌝ }
+    ensures { λ _. ⌜ Reported (source limits (now (cells .entry)) (now (sets .entry)) (now (heads .entry))) (now (list .entry)) lines figures (now (buffer .entry)) (now (buffer .exit)) ⌝ }
 {
-    let group_excess = put_groups(buffer, limits, ranking, cells, sets, groups);
-    let over = above(figures.a3_sum, figures.a3_limit);
+    let group_excess = put_list(buffer, limits, cells, sets, heads, list, lines);
+    let over = choice::less(figures.a3_sum, figures.a3_limit);
     let head = Head {
         lines: lines as u16,
         vaf: figures.vaf,

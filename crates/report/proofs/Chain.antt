@@ -13,7 +13,7 @@ use Rattle.book.specs.Book.{bookOf}
 use Rattle.book.specs.Check.{bookCheck}
 use Rattle.exposure.specs.Values.{fundCheck}
 use Rattle.report.specs.Answer.{reportOf, checkOf, answerOf, Answered}
-use Rattle.report.specs.Stages.{Passed}
+use Rattle.fund.specs.Fund.{Passed}
 
 module _ (schedule book before : List ℕ) where
   refused : {why : Refusal} → checkOf schedule book (length before) ≡ Bad why → Answered schedule book before before (Refused why)

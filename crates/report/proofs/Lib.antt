@@ -1,4 +1,3 @@
 pub mod Chain
-pub mod Limits
 pub mod Written
-pub mod Tables
+pub mod Zeros

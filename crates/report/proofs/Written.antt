@@ -1,42 +1,50 @@
 -- The report that was written out of the tables is that of the definitions, and demand 3 holds of its bytes.
+use mathlib.Core.Bool.{Bool, true, false}
 use mathlib.Core.List.{List, _++_}
 use mathlib.Core.Path.{_≡_, refl, sym, ap, ap₂, _∙_}
-use Prim.Native.Nat.{ℕ, _+_, _*_, _≤_, _<_}
+use Prim.Native.Nat.{ℕ, _+_, _*_, _-_, _≤_, _<_}
+use native.Mathlib.Nat.{pos-of-ne-zero}
 use native.Mathlib.Omega.{arith}
-use lib.ListN.{length, drop}
+use lib.Dec.{eqb}
+use lib.ListN.{length, getD, drop}
+use borrow.Author.Tests.{eqb-true, eqb-false}
 use Rattle.words.specs.Words.{sum}
 use Rattle.words.specs.Sums.{sum-same}
 use Rattle.wire.specs.Bytes.{M}
+use Rattle.refusal.specs.declared.Checked.{Checked}
 use Rattle.refusal.specs.declared.Checked.the-variants.{Fine, Bad}
+use Rattle.refusal.specs.declared.Refusal.{Refusal}
 use Rattle.refusal.specs.declared.Answer.the-variants.{Report}
 use Rattle.schedule.specs.Schedule.{scheduleOf}
-use Rattle.book.specs.Records.{C}
-use Rattle.book.specs.Book.{bookOf}
+use Rattle.book.specs.Records.{C, counterpartyAt}
+use Rattle.book.specs.Book.{bookOf, parentOf}
 use Rattle.book.specs.Accepted.{Accepted}
 use Rattle.exposure.specs.Values.{fundCheck}
 use Rattle.exposure.specs.Sums.{exposureOf}
-use Rattle.totals.specs.Totals.{Totals}
-use Rattle.totals.specs.declared.Sums.{Sums}
-use Rattle.totals.proofs.Whole.{whole-le}
 use Rattle.cascade.specs.Cascade.{tiers, byTier}
 use Rattle.cascade.proofs.Core.{Ordered}
 use Rattle.cascade.proofs.Ranking.{byLimit-ordered}
+use Rattle.rows.specs.Rows.{columns, row, row-at}
 use Rattle.figures.specs.Fund.{Fund}
-use Rattle.figures.specs.Report.{linesOf, report}
+use Rattle.figures.specs.Report.{headSize, lineSize, report}
 use Rattle.figures.specs.LeastCuts.{LeastCuts}
-use Rattle.figures.proofs.Agree.{Same, report-same}
+use Rattle.figures.specs.AgreeLaws.{Same, report-same}
 use Rattle.figures.proofs.Size.{report-long}
 use Rattle.figures.proofs.Least.{least-cuts}
-use Rattle.lines.specs.declared.Figures.{Figures}
-use Rattle.lines.specs.Table.{row, tableFund}
-use Rattle.lines.specs.Promise.{allExposures, Counted, Table, Ready}
-use Rattle.lines.proofs.Rows.{row-at}
-use Rattle.lines.proofs.Counting.{set-each}
-use Rattle.lines.proofs.Whole.{lines-few}
-use Rattle.report.specs.declared.Rated.{Rated}
-use Rattle.report.specs.Figures.{limit, fundOf}
+use Rattle.lines.specs.Table.{Heads, tableFund}
+use Rattle.lines.specs.Listing.{source}
+use Rattle.lines.specs.Promise.{Listable, Listed, allExposures, Table, Ready, Reported}
+use Rattle.lines.proofs.Heads.{head-exposure, no-exposure}
+use Rattle.lines.proofs.Whole.{ranked-once, listed-table}
+use Rattle.parties.specs.Rows.{topsTo}
+use Rattle.parties.specs.RowLaws.{tops-le, lower, headed-length, Head, head-is, head-at, heads-rise}
+use Rattle.cells.specs.Cells.{rowAt}
+use Rattle.cells.specs.GroupSums.{exposure-none, row-tier, rows-le}
+use Rattle.fund.specs.declared.Fund as made
+use Rattle.fund.specs.Figures.{limit, fundOf}
+use Rattle.fund.specs.Fund.{Passed, Exposed, RatedAs, MadeBy, Made}
 use Rattle.report.specs.Answer.{fundIn, reportOf, Answered}
-use Rattle.report.specs.Stages.{Passed, RatedAs}
+use Rattle.report.specs.Tables.{Headed, Room}
 use Rattle.report.proofs.Chain.{fine}
 
 ordered : (schedule book : List ℕ) → Ordered (fundIn schedule book .order) (fundIn schedule book .limit)
@@ -48,71 +56,117 @@ report-cuts : (schedule book more : List ℕ) → LeastCuts (fundIn schedule boo
 unfolding reportOf
 report-cuts schedule book more = least-cuts (fundIn schedule book) more (ordered schedule book)
 
-module _ {book cells a3 : List ℕ} {sums : Sums} (t : Totals book cells a3 sums) where
-  -- a group's row of the table is its exposures
-  row-is : (g u : ℕ) → u < tiers → byTier (row cells g) u ≡ exposureOf (bookOf book) g u
-  row-is g u l = row-at cells g u l ∙ t .cell g u (omega arith)
+-- what 14 and 15 found
+module _ (schedule book : List ℕ) (r : made.Fund) (m : Made schedule book r) where
+  pub made-fine : r .found ≡ Fine → (fundCheck (bookOf book) ≡ Fine) × RatedAs schedule book r
+  made-fine f = by (fundCheck (bookOf book)) refl m
+    where
+      by : (x : Checked) → fundCheck (bookOf book) ≡ x → MadeBy x schedule book r → (fundCheck (bookOf book) ≡ Fine) × RatedAs schedule book r
+      by Fine e q = (e, q)
+      by (Bad why) e q = absurd (let w : r .found ≡ Bad why = ap (λ (x : made.Fund). x .found) q in let z : _≡_ {A = ℕ} 0 1 = cc in omega arith)
 
-  pub amounts : Accepted book → (groups : ℕ) → allExposures cells groups ≤ 900 * M
-  amounts acc groups =
-      let e = sum-same (λ k. sum (byTier (row cells (k + 1))) tiers) (λ k. sum (exposureOf (bookOf book) (k + 1)) tiers) groups
-      (λ k _. sum-same (byTier (row cells (k + 1))) (exposureOf (bookOf book) (k + 1)) tiers (row-is (k + 1))) in
-      omega (arith, e, whole-le book acc tiers groups)
+  pub made-bad : {why : Refusal} → r .found ≡ Bad why → fundCheck (bookOf book) ≡ Bad why
+  made-bad {why} f = by (fundCheck (bookOf book)) refl m
+    where
+      by : (x : Checked) → fundCheck (bookOf book) ≡ x → MadeBy x schedule book r → fundCheck (bookOf book) ≡ Bad why
+      by Fine e q = absurd (let w = q .found in let z : _≡_ {A = ℕ} 0 1 = cc in omega arith)
+      by (Bad other) e q = e ∙ sym (ap (λ (x : made.Fund). x .found) q) ∙ f
 
-  module _ {schedule : List ℕ} {r : Rated} (d : RatedAs schedule book r) {c : ℕ} (e : c ≡ C book) where
-    abbrev written : Fund
-    written = tableFund (r .limits) cells c (r .figures)
+module _ {b heads : List ℕ} (H : Headed b heads) {groups : ℕ} (eg : groups ≡ topsTo b (C b)) where
+  head : (k : ℕ) → k < groups → Head b (C b) k (getD heads k 0)
+  head k l = rw (H .stored) (head-is b (H .before) (C b) (H .room) k (omega arith))
 
-    same : Same written (fundIn schedule book)
-    unfolding tableFund fundIn fundOf bookOf
-    same = record {
-      groups = e;
-      tiers = refl;
-      order = λ a b _ _. rw (d .limits) refl;
-      limit = λ u _. rw (d .limits) refl;
-      exposure = λ g u _ _ l. row-is g u l;
-      vaf = d .vaf;
-      stressedVaf = d .stressed;
-      allNet = d .all-net;
-      unlimited = d .unlimited;
-      a3Sum = d .a3-sum;
-      a3Limit = d .a3-limit;
-    }
+  pub heads-are : Heads heads (C b) groups
+  heads-are = record {
+    first = λ k l. head k l .low;
+    last = λ k l. head k l .high;
+    rise = λ j k l h. rw (H .stored) (heads-rise b (H .before) (C b) (H .room) j k l (omega arith));
+  }
 
-    pub report-is : report written ≡ reportOf schedule book
-    unfolding reportOf
-    report-is = report-same written (fundIn schedule book) same
+  pub heads-long : groups ≤ length heads
+  heads-long = omega (arith, tops-le b (C b), H .room, ap length (H .stored), headed-length b (C b) (H .before))
 
-    pub size-is : {n : ℕ} → n ≡ length (linesOf written) → length (reportOf schedule book) ≡ 72 + 40 * n
-    size-is h = ap length (sym report-is) ∙ report-long written ∙ ap (λ (k : ℕ). 72 + 40 * k) (sym h)
+  module _ {cells : List ℕ} (e : Exposed b groups cells) where
+    -- a group's row is the exposures of its top place
+    row-is : (k t : ℕ) → k < groups → t < tiers → byTier (row cells k) t ≡ exposureOf (bookOf b) (getD heads k 0) t
+    row-is k t l h = row-at cells k t h ∙ row-tier (e .posted) (H .before) (H .room) (H .stored) k (omega arith) t h
 
-    pub answered :
-        Passed schedule book → fundCheck (bookOf book) ≡ Fine → {n : ℕ} → n ≡ length (linesOf written) → {before after : List ℕ} → 72 + 40 * n ≤ length before
-        → after ≡ report written ++ drop (length (report written)) before → Answered schedule book before after (Report (72 + 40 * n))
-    answered p f {n} h {before} {after} l w =
-        let s : length (reportOf schedule book) ≡ 72 + 40 * n = size-is h in
-        let a : after ≡ reportOf schedule book ++ drop (72 + 40 * n) before = w ∙ ap₂ (λ (x : List ℕ) (k : ℕ). x ++ drop k before) report-is (ap length report-is ∙ s) in
-        record {
-          answer = ap Report (sym s) ∙ fine schedule book before p f (omega arith);
-          bytes = a;
-          cuts = rw a (report-cuts schedule book (drop (72 + 40 * n) before));
-        }
+    pub amounts : Accepted b → allExposures cells groups ≤ 900 * M
+    amounts acc =
+        let each = sum-same (λ k. sum (byTier (row cells k)) tiers) (λ k. sum (rowAt cells (columns * k)) tiers) groups (λ k _. sum-same (byTier (row cells k)) (rowAt cells (columns * k)) tiers (row-at cells k)) in
+        omega (arith, each, rows-le acc (e .posted) eg)
 
-    -- what the writer asks
-    pub ready :
-        Accepted book → {before sets : List ℕ} {n room : ℕ} → Counted cells c before sets n → c < length before → length sets ≡ length before → 14 * (c + 1) ≤ length cells
-        → 72 + 40 * n ≤ room → Ready (r .limits) (r .ranking) cells sets c n (r .figures) room
-    ready acc k l q h i =
-        let m = k .lines (r .limits) (r .figures) in
-        record {
-          table = record { few = omega (arith, acc .counterparties); ranks = d .ranking; rows = h; places = omega arith; each = set-each cells c _ _ _ k l; amounts = amounts acc c };
-          lines = m;
-          a3 = d .a3-within;
-          fits = omega (arith, report-long written, m);
-        }
+    module _ {schedule : List ℕ} {r : made.Fund} (d : RatedAs schedule b r) where
+      abbrev written : Fund
+      written = tableFund (r .limits) cells heads (C b) groups (r .figures)
 
--- so few lines that their length fits
-pub count-le : {cells before after : List ℕ} {groups n : ℕ} → Counted cells groups before after n → groups ≤ 500 → n ≤ 6500
-count-le {cells} {before} {after} {groups} k h =
-    let none : Figures = record { vaf = 0; «stressed_vaf» = 0; «all_net» = 0; unlimited = 0; «a3_sum» = 0; «a3_limit» = 0 } in
-    omega (arith, k .lines cells none, lines-few cells cells groups none)
+      -- a top place has its group's row, any other place has nothing
+      exposure-is : (g t : ℕ) → 1 ≤ g → g ≤ C b → t < tiers → written .exposure g t ≡ exposureOf (bookOf b) g t
+      exposure-is g t l h n = by (eqb (parentOf (counterpartyAt b) g) 0) refl
+        where
+          by : (s : Bool) → eqb (parentOf (counterpartyAt b) g) 0 ≡ s → written .exposure g t ≡ exposureOf (bookOf b) g t
+          by true z =
+              let alone = eqb-true (parentOf (counterpartyAt b) g) 0 z in
+              let k = topsTo b (g - 1) in
+              let inside : k < groups = omega (arith, lower b g (C b) l h alone) in
+              let at : getD heads k 0 ≡ g = rw (H .stored) (head-at b (H .before) (C b) (H .room) g l h alone) in
+              rw at at (head-exposure heads-are (r .limits) cells (r .figures) k inside t ∙ row-is k t inside n)
+          by false z =
+              let parent = pos-of-ne-zero (eqb-false (parentOf (counterpartyAt b) g) 0 z) in
+              no-exposure heads-are (r .limits) cells (r .figures) g (λ k q e. let alone = rw e at (head k q .alone) in omega arith) t
+              ∙ sym (exposure-none b g parent t)
+
+      same : Same written (fundIn schedule b)
+      unfolding tableFund fundIn fundOf bookOf
+      same = record {
+        groups = refl;
+        tiers = refl;
+        order = λ a b _ _. rw (d .limits) refl;
+        limit = λ u _. rw (d .limits) refl;
+        exposure = exposure-is;
+        vaf = d .vaf;
+        stressedVaf = d .stressed;
+        allNet = d .all-net;
+        unlimited = d .unlimited;
+        a3Sum = d .a3-sum;
+        a3Limit = d .a3-limit;
+      }
+
+      report-is : report written ≡ reportOf schedule b
+      unfolding reportOf
+      report-is = report-same written (fundIn schedule b) same
+
+      -- what the lines are listed from
+      pub listable : Accepted b → {sets list : List ℕ} → Room groups sets list → Listable cells groups (r .ranking) sets list
+      listable acc q = record {
+        few = omega (arith, tops-le b (C b), acc .counterparties);
+        rows = e .size;
+        places = q .of-sets;
+        room = q .of-list;
+        ranks = rw (d .ranking) (ranked-once (r .limits));
+      }
+
+      module _ {sets₀ sets list₀ list : List ℕ} {n : ℕ} (l : Listed cells groups (r .ranking) sets₀ sets list₀ list n) where
+        pub size-is : length (reportOf schedule b) ≡ headSize + lineSize * n
+        size-is = ap length (sym report-is) ∙ report-long written ∙ ap (λ (k : ℕ). headSize + lineSize * k) (sym (l .lines (r .limits) heads (C b) (r .figures) heads-are))
+
+        pub lines-few : Accepted b → n ≤ 6500
+        lines-few acc = omega (arith, l .few, tops-le b (C b), acc .counterparties)
+
+        table : Accepted b → Room groups sets₀ list₀ → length sets ≡ length sets₀ → Table (source (r .limits) cells sets heads) list groups n
+        table acc q size = listed-table (source (r .limits) cells sets heads) (rw (d .ranking) at (listable acc q)) (rw (d .ranking) at l) size heads-long (amounts acc)
+
+        pub ready : Accepted b → Room groups sets₀ list₀ → length sets ≡ length sets₀ → {room : ℕ} → headSize + lineSize * n ≤ room → Ready (source (r .limits) cells sets heads) list n (r .figures) room
+        ready acc q size h = record { groups = groups; places = C b; table = table acc q size; heads = heads-are; a3 = d .a3-within; fits = h }
+
+        pub answered :
+            Passed schedule b → fundCheck (bookOf b) ≡ Fine → Accepted b → Room groups sets₀ list₀ → length sets ≡ length sets₀ → {before after : List ℕ} → headSize + lineSize * n ≤ length before
+            → Reported (source (r .limits) cells sets heads) list n (r .figures) before after → Answered schedule b before after (Report (headSize + lineSize * n))
+        answered p f acc q size {before} {after} h w =
+            let put : after ≡ report written ++ drop (length (report written)) before = w (C b) groups heads-are (table acc q size) in
+            let a : after ≡ reportOf schedule b ++ drop (headSize + lineSize * n) before = put ∙ ap₂ (λ (x : List ℕ) (k : ℕ). x ++ drop k before) report-is (ap length report-is ∙ size-is) in
+            record {
+              answer = ap Report (sym size-is) ∙ fine schedule b before p f (omega (arith, size-is));
+              bytes = a;
+              cuts = rw a (report-cuts schedule b (drop (headSize + lineSize * n) before));
+            }

@@ -21,7 +21,7 @@ use Rattle.exposure.specs.Values.{fundCheck}
 use Rattle.figures.specs.Fund.{Fund}
 use Rattle.figures.specs.Report.{report}
 use Rattle.figures.specs.LeastCuts.{LeastCuts}
-use Rattle.report.specs.Figures.{fundOf}
+use Rattle.fund.specs.Figures.{fundOf}
 
 -- the fund of a schedule's and a book's bytes
 unfoldable pub fundIn : List ℕ → List ℕ → Fund

@@ -1,3 +1,2 @@
-pub mod Figures
 pub mod Answer
-pub mod Stages
+pub mod Tables

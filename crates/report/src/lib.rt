@@ -1,226 +1,331 @@
 // The entry: from a schedule, a book and a lent buffer to a report, or to one refusal.
 use cascade::TIERS;
-use fund::Values;
-use lines::Figures;
 use refusal::Answer;
 use refusal::Checked;
 use refusal::Refusal;
-use sums::Drawn;
+use rows::COLUMNS;
 ghost use mathlib.Core.Path.{_≡_};
-ghost use Prim.Native.Nat.{_+_, _*_, _≤_, _<_};
-ghost use lib.ListN.{length};
-ghost use Rattle.refusal.specs.declared.Checked.the-variants.{Fine, Bad};
-ghost use Rattle.book.specs.Records.{C, N};
-ghost use Rattle.book.specs.Book.{bookOf};
-ghost use Rattle.exposure.specs.Values.{fundCheck};
-ghost use Rattle.exposure.specs.Sums.{W};
-ghost use Rattle.fund.specs.Fund.{FundSums};
-ghost use Rattle.totals.specs.Totals.{Zeros};
-ghost use Rattle.sums.specs.Drawn.{Summed};
+ghost use Prim.Native.Nat.{_≤_};
+ghost use Rattle.book.specs.Records.{C};
+ghost use Rattle.parties.specs.Rows.{topsTo, Parties};
+ghost use Rattle.cells.specs.Cells.{Zeros};
+ghost use Rattle.fund.specs.Fund.{Passed, Lent};
 ghost use Rattle.report.specs.Answer.{Answered};
-ghost use Rattle.report.specs.Stages.{Passed, LimitsOf, RatedAs};
+ghost use Rattle.report.specs.Tables.{Headed, Room, Within, smallSize, mediumSize, fewGroups};
 
-// What the schedule gives for the fund's values.
-struct Limited {
-    vaf: u64,
-    stressed_vaf: u64,
-    limits: [u64; TIERS],
-    a3_limit: u64,
-}
+// Tables for books of three sizes: zeroing the largest takes longer than a small book. `FEW` groups are a size of their own among the largest books.
+const SMALL: usize = 16;
 
-// All that the lines and the header are made of, but for the exposures.
-struct Rated {
-    limits: [u64; TIERS],
-    ranking: [usize; TIERS],
-    figures: Figures,
-}
+const MEDIUM: usize = 128;
 
-// VAF, VAF′ and the limits.
-fn fund_limits(schedule: &[u8], book: &[u8], values: Values, w: u64) -> Limited
-    requires { ⌜ (Passed (now schedule) (now book)) × (fundCheck (bookOf (now book)) ≡ Fine) × (FundSums (now book) values) × (w ≡ W (bookOf (now book))) ⌝ }
-    ensures { λ r. ⌜ LimitsOf (now (schedule .entry)) (now (book .entry)) r ⌝ }
-{
-    let s = schedule::schedule_at(schedule);
-    let vaf = fund::vaf(book, values);
-    let stressed_vaf = fund::stressed_vaf(book, values);
-    let base = wire::i64_at(book, 24);
-    Limited {
-        vaf,
-        stressed_vaf,
-        limits: schedule::limits(s, vaf, stressed_vaf, base, w),
-        a3_limit: schedule::a3_limit(s, stressed_vaf, base),
-    }
-}
-
-// The figures of a fund that every check of its schedule and book let pass.
-fn rate(schedule: &[u8], book: &[u8], c: usize, drawn: Drawn, cells: &[u64], a3: &[u64]) -> Rated
-    requires { ⌜ (Passed (now schedule) (now book)) × (fundCheck (bookOf (now book)) ≡ Fine) × (c ≡ C (now book)) × (Summed (now book) (now cells) (now a3) drawn) × (14 * (c + 1) ≤ length (now a3)) ⌝ }
-    ensures { λ r. ⌜ RatedAs (now (schedule .entry)) (now (book .entry)) r ⌝ }
-{
-    let values = drawn.values;
-    let sums = drawn.sums;
-    let l = fund_limits(schedule, book, values, sums.w);
-    let limits = l.limits;
-    let figures = Figures {
-        vaf: l.vaf,
-        stressed_vaf: l.stressed_vaf,
-        all_net: values.all,
-        unlimited: values.linked + sums.free,
-        a3_sum: a3::sum(a3, limits, c),
-        a3_limit: l.a3_limit,
-    };
-    Rated {
-        limits,
-        ranking: cascade::rank(limits),
-        figures,
-    }
-}
-
-// Refusal 16, or the report.
-fn finish(
-    schedule: &[u8],
-    book: &[u8],
-    c: usize,
-    drawn: Drawn,
-    cells: &[u64],
-    a3: &[u64],
-    sets: &mut [u16],
-    report: &mut [u8],
-) -> Answer
-    requires { ⌜ (Passed (now schedule) (now book)) × (fundCheck (bookOf (now book)) ≡ Fine) × (c ≡ C (now book)) × (Summed (now book) (now cells) (now a3) drawn) × (14 * (c + 1) ≤ length (now cells)) × (14 * (c + 1) ≤ length (now a3)) × (c < length (now sets)) ⌝ }
-    ensures { λ r. ⌜ Answered (now (schedule .entry)) (now (book .entry)) (now (report .entry)) (now (report .exit)) r ⌝ }
-{
-    let r = rate(schedule, book, c, drawn, cells, a3);
-    let n = lines::count_lines(cells, c, sets);
-    let size = 72 + 40 * n;
-    if report.len() < size {
-        return Answer::Refused(Refusal::BufferShort);
-    }
-    let limits = r.limits;
-    let ranking = r.ranking;
-    let figures = r.figures;
-    lines::put_report(report, limits, ranking, cells, sets, c, n, figures);
-    Answer::Report(size)
-}
+const FEW: usize = 64;
 
 // Refusals 14 to 16, or the report, in tables that the caller lends.
-fn with_tables(
+fn answer(
     schedule: &[u8],
     book: &[u8],
-    c: usize,
-    n: usize,
-    tops: &mut [usize],
-    nets: &mut [u64],
+    groups: usize,
+    words: &[u64],
+    terms: &[u64],
+    rows: &[u16],
+    heads: &[u16],
+    starts: &mut [u16],
     caps: &mut [u64],
+    rests: &mut [u64],
+    places: &mut [u16],
+    covered: &mut [u64],
     cells: &mut [u64],
-    a3: &mut [u64],
     sets: &mut [u16],
+    list: &mut [u16],
     report: &mut [u8],
 ) -> Answer
-    requires { ⌜ (Passed (now schedule) (now book)) × (c ≡ C (now book)) × (n ≡ N (now book)) × (c < length (now tops)) × (n < length (now nets)) × (n < length (now caps)) × (Zeros (now book) (now cells)) × (Zeros (now book) (now a3)) × (c < length (now sets)) ⌝ }
+    requires { ⌜ (Passed (now schedule) (now book)) × (groups ≡ topsTo (now book) (C (now book))) × (Parties (now book) (now words) (now terms) (now rows)) × (Headed (now book) (now heads)) × (Lent (now book) (now starts) (now caps) (now rests) (now places) (now covered)) × (Zeros groups (now cells)) × (Room groups (now sets) (now list)) ⌝ }
     ensures { λ r. ⌜ Answered (now (schedule .entry)) (now (book .entry)) (now (report .entry)) (now (report .exit)) r ⌝ }
 {
-    let drawn = sums::draw(book, c, n, tops, nets, caps, cells, a3);
-    let values = drawn.values;
-    let found = fund::fund_check(book, values);
+    let f = fund::make(
+        schedule,
+        book,
+        groups,
+        words,
+        terms,
+        rows,
+        starts,
+        caps,
+        rests,
+        places,
+        covered,
+        cells,
+    );
+    let found = f.found;
     match found {
         Checked::Bad(why) => Answer::Refused(why),
-        Checked::Fine => finish(schedule, book, c, drawn, cells, a3, sets, report),
+        Checked::Fine => {
+            let limits = f.limits;
+            let ranking = f.ranking;
+            let figures = f.figures;
+            let n = lines::list_lines(cells, groups, ranking, sets, list);
+            let size = lines::HEAD + lines::LINE * n;
+            if report.len() < size {
+                return Answer::Refused(Refusal::BufferShort);
+            }
+            lines::put_report(report, limits, cells, sets, heads, list, n, figures);
+            Answer::Report(size)
+        }
     }
 }
 
-// In tables for up to 16 counterparties and 64 assets.
-fn small(schedule: &[u8], book: &[u8], c: usize, n: usize, report: &mut [u8]) -> Answer
-    requires { ⌜ (Passed (now schedule) (now book)) × (c ≡ C (now book)) × (n ≡ N (now book)) × (c ≤ 16) × (n ≤ 64) ⌝ }
+// In tables for up to SMALL counterparties and four times as many assets and mitigants.
+fn small(schedule: &[u8], book: &[u8], c: usize, report: &mut [u8]) -> Answer
+    requires { ⌜ (Passed (now schedule) (now book)) × (c ≡ C (now book)) × (Within smallSize (now book)) ⌝ }
     ensures { λ r. ⌜ Answered (now (schedule .entry)) (now (book .entry)) (now (report .entry)) (now (report .exit)) r ⌝ }
 {
-    let mut tops = [0usize; 17];
-    let mut nets = [0u64; 65];
-    let mut caps = [0u64; 65];
-    let mut cells = [0u64; 238];
-    let mut a3 = [0u64; 238];
-    let mut sets = [0u16; 17];
-    with_tables(
-        schedule,
+    let mut words = [0u64; SMALL + 1];
+    let mut terms = [0u64; SMALL + 1];
+    let mut tops = [0u16; SMALL + 1];
+    let mut rows = [0u16; SMALL + 1];
+    let mut heads = [0u16; SMALL + 1];
+    let mut starts = [0u16; 4 * SMALL + 2];
+    let mut caps = [0u64; 4 * SMALL + 1];
+    let mut rests = [0u64; 4 * SMALL + 1];
+    let mut places = [0u16; 4 * SMALL + 1];
+    let mut covered = [0u64; 4 * SMALL + 1];
+    let mut cells = [0u64; COLUMNS * SMALL];
+    let mut sets = [0u16; SMALL];
+    let mut list = [0u16; TIERS * SMALL];
+    let groups = parties::fill(
         book,
         c,
-        n,
+        &mut words,
+        &mut terms,
         &mut tops,
-        &mut nets,
+        &mut rows,
+        &mut heads,
+    );
+    answer(
+        schedule,
+        book,
+        groups,
+        &words,
+        &terms,
+        &rows,
+        &heads,
+        &mut starts,
         &mut caps,
+        &mut rests,
+        &mut places,
+        &mut covered,
         &mut cells,
-        &mut a3,
         &mut sets,
+        &mut list,
         report,
     )
 }
 
-// In tables for up to 128 counterparties and 512 assets.
-fn medium(schedule: &[u8], book: &[u8], c: usize, n: usize, report: &mut [u8]) -> Answer
-    requires { ⌜ (Passed (now schedule) (now book)) × (c ≡ C (now book)) × (n ≡ N (now book)) × (c ≤ 128) × (n ≤ 512) ⌝ }
+// In tables for up to MEDIUM counterparties and four times as many assets and mitigants.
+fn medium(schedule: &[u8], book: &[u8], c: usize, report: &mut [u8]) -> Answer
+    requires { ⌜ (Passed (now schedule) (now book)) × (c ≡ C (now book)) × (Within mediumSize (now book)) ⌝ }
     ensures { λ r. ⌜ Answered (now (schedule .entry)) (now (book .entry)) (now (report .entry)) (now (report .exit)) r ⌝ }
 {
-    let mut tops = [0usize; 129];
-    let mut nets = [0u64; 513];
-    let mut caps = [0u64; 513];
-    let mut cells = [0u64; 1806];
-    let mut a3 = [0u64; 1806];
-    let mut sets = [0u16; 129];
-    with_tables(
-        schedule,
+    let mut words = [0u64; MEDIUM + 1];
+    let mut terms = [0u64; MEDIUM + 1];
+    let mut tops = [0u16; MEDIUM + 1];
+    let mut rows = [0u16; MEDIUM + 1];
+    let mut heads = [0u16; MEDIUM + 1];
+    let mut starts = [0u16; 4 * MEDIUM + 2];
+    let mut caps = [0u64; 4 * MEDIUM + 1];
+    let mut rests = [0u64; 4 * MEDIUM + 1];
+    let mut places = [0u16; 4 * MEDIUM + 1];
+    let mut covered = [0u64; 4 * MEDIUM + 1];
+    let mut cells = [0u64; COLUMNS * MEDIUM];
+    let mut sets = [0u16; MEDIUM];
+    let mut list = [0u16; TIERS * MEDIUM];
+    let groups = parties::fill(
         book,
         c,
-        n,
+        &mut words,
+        &mut terms,
         &mut tops,
-        &mut nets,
+        &mut rows,
+        &mut heads,
+    );
+    answer(
+        schedule,
+        book,
+        groups,
+        &words,
+        &terms,
+        &rows,
+        &heads,
+        &mut starts,
         &mut caps,
+        &mut rests,
+        &mut places,
+        &mut covered,
         &mut cells,
-        &mut a3,
         &mut sets,
+        &mut list,
+        report,
+    )
+}
+
+// With cells for `FEW` groups.
+fn few(
+    schedule: &[u8],
+    book: &[u8],
+    groups: usize,
+    words: &[u64],
+    terms: &[u64],
+    rows: &[u16],
+    heads: &[u16],
+    starts: &mut [u16],
+    caps: &mut [u64],
+    rests: &mut [u64],
+    places: &mut [u16],
+    covered: &mut [u64],
+    report: &mut [u8],
+) -> Answer
+    requires { ⌜ (Passed (now schedule) (now book)) × (groups ≡ topsTo (now book) (C (now book))) × (Parties (now book) (now words) (now terms) (now rows)) × (Headed (now book) (now heads)) × (Lent (now book) (now starts) (now caps) (now rests) (now places) (now covered)) × (groups ≤ fewGroups) ⌝ }
+    ensures { λ r. ⌜ Answered (now (schedule .entry)) (now (book .entry)) (now (report .entry)) (now (report .exit)) r ⌝ }
+{
+    let mut cells = [0u64; COLUMNS * FEW];
+    let mut sets = [0u16; FEW];
+    let mut list = [0u16; TIERS * FEW];
+    answer(
+        schedule,
+        book,
+        groups,
+        words,
+        terms,
+        rows,
+        heads,
+        starts,
+        caps,
+        rests,
+        places,
+        covered,
+        &mut cells,
+        &mut sets,
+        &mut list,
+        report,
+    )
+}
+
+// With cells for any number of groups.
+fn many(
+    schedule: &[u8],
+    book: &[u8],
+    groups: usize,
+    words: &[u64],
+    terms: &[u64],
+    rows: &[u16],
+    heads: &[u16],
+    starts: &mut [u16],
+    caps: &mut [u64],
+    rests: &mut [u64],
+    places: &mut [u16],
+    covered: &mut [u64],
+    report: &mut [u8],
+) -> Answer
+    requires { ⌜ (Passed (now schedule) (now book)) × (groups ≡ topsTo (now book) (C (now book))) × (Parties (now book) (now words) (now terms) (now rows)) × (Headed (now book) (now heads)) × (Lent (now book) (now starts) (now caps) (now rests) (now places) (now covered)) ⌝ }
+    ensures { λ r. ⌜ Answered (now (schedule .entry)) (now (book .entry)) (now (report .entry)) (now (report .exit)) r ⌝ }
+{
+    let mut cells = [0u64; COLUMNS * book::MOST_COUNTERPARTIES];
+    let mut sets = [0u16; book::MOST_COUNTERPARTIES];
+    let mut list = [0u16; TIERS * book::MOST_COUNTERPARTIES];
+    answer(
+        schedule,
+        book,
+        groups,
+        words,
+        terms,
+        rows,
+        heads,
+        starts,
+        caps,
+        rests,
+        places,
+        covered,
+        &mut cells,
+        &mut sets,
+        &mut list,
         report,
     )
 }
 
 // In tables for any book.
-fn large(schedule: &[u8], book: &[u8], c: usize, n: usize, report: &mut [u8]) -> Answer
-    requires { ⌜ (Passed (now schedule) (now book)) × (c ≡ C (now book)) × (n ≡ N (now book)) ⌝ }
+fn large(schedule: &[u8], book: &[u8], c: usize, report: &mut [u8]) -> Answer
+    requires { ⌜ (Passed (now schedule) (now book)) × (c ≡ C (now book)) ⌝ }
     ensures { λ r. ⌜ Answered (now (schedule .entry)) (now (book .entry)) (now (report .entry)) (now (report .exit)) r ⌝ }
 {
-    let mut tops = [0usize; 501];
-    let mut nets = [0u64; 901];
-    let mut caps = [0u64; 901];
-    let mut cells = [0u64; 7014];
-    let mut a3 = [0u64; 7014];
-    let mut sets = [0u16; 501];
-    with_tables(
-        schedule,
+    let mut words = [0u64; book::MOST_COUNTERPARTIES + 1];
+    let mut terms = [0u64; book::MOST_COUNTERPARTIES + 1];
+    let mut tops = [0u16; book::MOST_COUNTERPARTIES + 1];
+    let mut rows = [0u16; book::MOST_COUNTERPARTIES + 1];
+    let mut heads = [0u16; book::MOST_COUNTERPARTIES + 1];
+    let mut starts = [0u16; book::MOST_MITIGANTS + 2];
+    let mut caps = [0u64; book::MOST_ASSETS + 1];
+    let mut rests = [0u64; book::MOST_ASSETS + 1];
+    let mut places = [0u16; book::MOST_ASSETS + 1];
+    let mut covered = [0u64; book::MOST_MITIGANTS + 1];
+    let groups = parties::fill(
         book,
         c,
-        n,
+        &mut words,
+        &mut terms,
         &mut tops,
-        &mut nets,
+        &mut rows,
+        &mut heads,
+    );
+    if groups <= FEW {
+        return few(
+            schedule,
+            book,
+            groups,
+            &words,
+            &terms,
+            &rows,
+            &heads,
+            &mut starts,
+            &mut caps,
+            &mut rests,
+            &mut places,
+            &mut covered,
+            report,
+        );
+    }
+    many(
+        schedule,
+        book,
+        groups,
+        &words,
+        &terms,
+        &rows,
+        &heads,
+        &mut starts,
         &mut caps,
-        &mut cells,
-        &mut a3,
-        &mut sets,
+        &mut rests,
+        &mut places,
+        &mut covered,
         report,
     )
 }
 
-// Refusals 14 to 16, or the report. The tables are of the size that the book needs: zeroing the largest takes longer than a small book.
+// Refusals 14 to 16, or the report, of a book that refusals 1 to 13 let pass.
 fn accepted(schedule: &[u8], book: &[u8], report: &mut [u8]) -> Answer
     requires { ⌜ Passed (now schedule) (now book) ⌝ }
     ensures { λ r. ⌜ Answered (now (schedule .entry)) (now (book .entry)) (now (report .entry)) (now (report .exit)) r ⌝ }
 {
-    let c = wire::u16_at(book, 6) as usize;
-    let n = wire::u16_at(book, 8) as usize;
-    if (c <= 16) & (n <= 64) {
-        return small(schedule, book, c, n, report);
+    let h = book::header_at(book);
+    let c = h.counterparties as usize;
+    let n = h.assets as usize;
+    let k = h.mitigants as usize;
+    if (c <= SMALL) & (n <= 4 * SMALL) & (k <= 4 * SMALL) {
+        return small(schedule, book, c, report);
     }
-    if (c <= 128) & (n <= 512) {
-        return medium(schedule, book, c, n, report);
+    if (c <= MEDIUM) & (n <= 4 * MEDIUM) & (k <= 4 * MEDIUM) {
+        return medium(schedule, book, c, report);
     }
-    large(schedule, book, c, n, report)
+    large(schedule, book, c, report)
 }
 
 // A report, or the first refusal that applies. A refusal changes no byte of the buffer, a report only its own length.

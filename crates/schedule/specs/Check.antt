@@ -1,4 +1,6 @@
 -- Refusals 1 to 4.
+--   scheduleMarked rowFits ratesFit   the tests of 2 and 4
+--   fieldsCheck scheduleCheck         the refusals 2 to 4, and all
 use mathlib.Core.Bool.{Bool, _&&_}
 use mathlib.Core.List.{List}
 use Prim.Native.Nat.{ℕ}
@@ -11,7 +13,7 @@ use Rattle.refusal.specs.declared.Checked.{Checked}
 use Rattle.refusal.specs.declared.Refusal.the-variants.{ScheduleLength, ScheduleMark, ScheduleVersion, ScheduleRates}
 use Rattle.refusal.specs.Chain.{refuse_unless_, _andThen_}
 use Rattle.schedule.specs.declared.Schedule.{Schedule}
-use Rattle.schedule.specs.Schedule.{scheduleOf}
+use Rattle.schedule.specs.Schedule.{scheduleSize, scheduleOf}
 
 -- "ACL", a zero byte
 abbrev pub scheduleMarked : List ℕ → Bool
@@ -37,4 +39,4 @@ fieldsCheck s =
 
 -- 1 to 4: first "schedule not 122 bytes"
 unfoldable pub scheduleCheck : List ℕ → Checked
-scheduleCheck s = (refuse ScheduleLength unless length s =? 122) andThen fieldsCheck s
+scheduleCheck s = (refuse ScheduleLength unless length s =? scheduleSize) andThen fieldsCheck s

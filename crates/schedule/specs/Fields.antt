@@ -1,13 +1,13 @@
 -- A row and a schedule are made of their fields: row-by, schedule-by.
 use mathlib.Core.List.{List}
 use mathlib.Core.Path.{_≡_}
-use Prim.Native.Nat.{ℕ, _+_, _*_}
+use Prim.Native.Nat.{ℕ, _+_}
 use Rattle.wire.specs.Bytes.{u16At, u64At}
 use Rattle.limit.specs.declared.Row.{Row}
-use Rattle.schedule.specs.Schedule.{rowAt, scheduleOf}
+use Rattle.schedule.specs.Schedule.{rowStart, rowAt, scheduleOf}
 
 pub row-by : (s : List ℕ) (n : ℕ) {rate second base fixed : ℕ}
-    → rate ≡ u16At s (10 + 14 * n) → second ≡ u16At s (12 + 14 * n) → base ≡ u16At s (14 + 14 * n) → fixed ≡ u64At s (16 + 14 * n)
+    → rate ≡ u16At s (rowStart n) → second ≡ u16At s (rowStart n + 2) → base ≡ u16At s (rowStart n + 4) → fixed ≡ u64At s (rowStart n + 6)
     → record { rate = rate; second = second; «base_rate» = base; fixed = fixed } ≡ rowAt s n
 unfolding rowAt
 row-by s n er es eb ef = rw (er, es, eb, ef)

@@ -1,4 +1,4 @@
--- What refusals 1 to 4 leave: a schedule whose rows and percents fit.
+-- What refusals 1 to 4 leave: a schedule whose rows and percents fit, RatesFit.
 use Prim.Native.Nat.{_≤_}
 use Rattle.limit.specs.Bounds.{RowFits}
 use Rattle.schedule.specs.declared.Schedule.{Schedule}

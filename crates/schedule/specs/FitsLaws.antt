@@ -15,7 +15,7 @@ use Rattle.refusal.specs.declared.Refusal.the-variants.{ScheduleLength, Schedul
 use Rattle.refusal.specs.Chain.{refuse_unless_, _andThen_}
 use Rattle.refusal.specs.Laws.{then-first, then-rest, unless-fine}
 use Rattle.schedule.specs.declared.Schedule.{Schedule}
-use Rattle.schedule.specs.Schedule.{scheduleOf}
+use Rattle.schedule.specs.Schedule.{scheduleSize, scheduleOf}
 use Rattle.schedule.specs.Check.{scheduleMarked, rowFits, ratesFit, fieldsCheck, scheduleCheck}
 use Rattle.schedule.specs.Fits.{RatesFit}
 
@@ -51,17 +51,17 @@ tested-fits s e =
     }
 
 module _ (s : List ℕ) (e : scheduleCheck s ≡ Fine) where
-  pub schedule-length : length s ≡ 122
+  pub schedule-length : length s ≡ scheduleSize
   unfolding scheduleCheck
   schedule-length =
-      eqb-true (length s) 122
-      (unless-fine ScheduleLength (length s =? 122) (then-first (refuse ScheduleLength unless length s =? 122) (fieldsCheck s) e))
+      eqb-true (length s) scheduleSize
+      (unless-fine ScheduleLength (length s =? scheduleSize) (then-first (refuse ScheduleLength unless length s =? scheduleSize) (fieldsCheck s) e))
 
   pub rates-fit : RatesFit (scheduleOf s)
   unfolding scheduleCheck fieldsCheck
   rates-fit =
       let version = refuse ScheduleVersion unless u16At s 4 =? 1 in
       let rates = refuse ScheduleRates unless ratesFit (scheduleOf s) in
-      let f = then-rest (refuse ScheduleLength unless length s =? 122) (fieldsCheck s) e in
+      let f = then-rest (refuse ScheduleLength unless length s =? scheduleSize) (fieldsCheck s) e in
       let v = then-rest (refuse ScheduleMark unless scheduleMarked s) (version andThen rates) f in
       tested-fits (scheduleOf s) (unless-fine ScheduleRates (ratesFit (scheduleOf s)) (then-rest version rates v))

@@ -1,10 +1,10 @@
--- The published schedule fits; its bytes are 122, refusals 1 to 4 let them pass, and they read back as it.
+-- The published schedule fits; its bytes are as many as a schedule has, refusals 1 to 4 let them pass, and they read back as it.
 use mathlib.Core.Path.{_≡_, refl}
 use lib.ListN.{length}
 use Rattle.words.specs.Words.{eachOf}
 use Rattle.wire.specs.Bytes.{u16At, u64At}
 use Rattle.refusal.specs.declared.Checked.the-variants.{Fine}
-use Rattle.schedule.specs.Schedule.{rowAt, scheduleOf, published, rowBytes, headBytes, scheduleBytes}
+use Rattle.schedule.specs.Schedule.{scheduleSize, rowAt, scheduleOf, published, rowBytes, headBytes, scheduleBytes}
 use Rattle.schedule.specs.Check.{rowFits, ratesFit, fieldsCheck, scheduleCheck}
 use Rattle.schedule.specs.Fits.{RatesFit}
 use Rattle.schedule.specs.FitsLaws.{tested-fits}
@@ -13,7 +13,7 @@ pub published-fits : RatesFit published
 unfolding ratesFit rowFits
 published-fits = tested-fits published refl
 
-pub published-length : length (scheduleBytes published) ≡ 122
+pub published-length : length (scheduleBytes published) ≡ scheduleSize
 unfolding scheduleBytes headBytes rowBytes eachOf
 published-length = refl
 

@@ -1,4 +1,6 @@
 -- "Schedule, 122 bytes".
+--   scheduleSize headSize rowSize rowCount   how many bytes a schedule, what stands before its rows, and a row have; how many rows there are
+--   rowStart                  where a row starts
 --   rowAt scheduleOf          a row and a schedule from bytes
 --   rowsOf                    a schedule's rows in their order
 --   published                 the published schedule
@@ -10,14 +12,34 @@ use Rattle.wire.specs.Bytes.{u16At, u64At, bytes16, bytes64}
 use Rattle.limit.specs.declared.Row.{Row}
 use Rattle.schedule.specs.declared.Schedule.{Schedule}
 
--- "14 bytes: u16 VAF rate, u16 second VAF rate, u16 base rate (..), u64 fixed amount"; n is 0 for c, 7 for z
+-- "Schedule, 122 bytes"
+abbrev pub scheduleSize : ℕ
+scheduleSize = 122
+
+-- "ACL", a zero byte, version and two percents
+abbrev pub headSize : ℕ
+headSize = 10
+
+-- "rows c, d, e, f, g, h, i, z of 14 bytes"
+abbrev pub rowSize : ℕ
+rowSize = 14
+
+abbrev pub rowCount : ℕ
+rowCount = 8
+
+-- row 0 is c, row 7 is z
+abbrev pub rowStart : ℕ → ℕ
+rowStart n = headSize + rowSize * n
+
+-- "14 bytes: u16 VAF rate, u16 second VAF rate, u16 base rate (..), u64 fixed amount"
 unfoldable pub rowAt : List ℕ → ℕ → Row
 rowAt s n =
+    let at = rowStart n in
     record {
-      rate = u16At s (10 + 14 * n);
-      second = u16At s (12 + 14 * n);
-      «base_rate» = u16At s (14 + 14 * n);
-      fixed = u64At s (16 + 14 * n);
+      rate = u16At s at;
+      second = u16At s (at + 2);
+      «base_rate» = u16At s (at + 4);
+      fixed = u64At s (at + 6);
     }
 
 -- "a zero byte, u16 version 1, u16 percent kept (..), u16 after the second, then rows"
@@ -65,14 +87,14 @@ published =
 abbrev pub mark : List ℕ
 mark = 65 ∷ 67 ∷ 76 ∷ 0 ∷ []
 
--- a row's 14 bytes, as `rowAt` reads them
+-- a row's bytes, as `rowAt` reads them
 unfoldable pub rowBytes : Row → List ℕ
 rowBytes r = bytes16 (r .rate) ++ bytes16 (r .second) ++ bytes16 (r .«base_rate») ++ bytes64 (r .fixed)
 
--- a schedule's first 10 bytes: "ACL", a zero byte, version 1, percents
+-- a schedule's bytes before its rows: "ACL", a zero byte, version 1, percents
 unfoldable pub headBytes : Schedule → List ℕ
 headBytes s = mark ++ bytes16 1 ++ bytes16 (s .first) ++ bytes16 (s .second)
 
--- a schedule's 122 bytes: "then rows"
+-- a schedule's bytes: "then rows"
 unfoldable pub scheduleBytes : Schedule → List ℕ
 scheduleBytes s = headBytes s ++ eachOf rowBytes (rowsOf s)

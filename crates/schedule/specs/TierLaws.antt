@@ -10,6 +10,7 @@ use Rattle.wire.specs.Bytes.{M}
 use Rattle.limit.specs.Limit.{counted}
 use Rattle.limit.specs.Bounds.{mostLimit}
 use Rattle.limit.specs.BoundLaws.{limit-le}
+use Rattle.cascade.specs.Cascade.{tiers}
 use Rattle.schedule.specs.declared.Schedule.{Schedule}
 use Rattle.schedule.specs.Tiers.{limits, a3LimitOf}
 use Rattle.schedule.specs.Fits.{RatesFit}
@@ -18,7 +19,7 @@ infixr 10 _and_
 _and_ : {A B : Type 0} → A → B → A × B
 _and_ a b = (a, b)
 
-pub limits-length : (S : Schedule) (vaf vaf′ : ℕ) (base : ℤ) (w : ℕ) → length (limits S vaf vaf′ base w) ≡ 13
+pub limits-length : (S : Schedule) (vaf vaf′ : ℕ) (base : ℤ) (w : ℕ) → length (limits S vaf vaf′ base w) ≡ tiers
 unfolding limits
 limits-length S vaf vaf′ base w = refl
 

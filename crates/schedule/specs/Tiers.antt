@@ -1,4 +1,6 @@
--- The thirteen limits of a fund, and the A3 limit.
+-- The limits of a fund.
+--   limits      of each tier, by tier number
+--   a3LimitOf   the A3 limit
 use mathlib.Core.List.{List, [], _∷_}
 use Prim.Native.Nat.{ℕ}
 use lib.IntN.{ℤ}

@@ -9,15 +9,21 @@ ghost use Rattle.words.specs.Words.{eachOf};
 ghost use Rattle.wire.specs.Bytes.{M, u16At, placed};
 ghost use Rattle.limit.specs.Limit.{counted};
 ghost use Rattle.limit.specs.Bounds.{mostLimit, RowFits};
-ghost use Rattle.schedule.specs.Schedule.{rowAt, scheduleOf, rowsOf, published, mark, rowBytes, headBytes, scheduleBytes};
+ghost use Rattle.schedule.specs.Schedule.{scheduleSize, headSize, rowSize, rowCount, rowAt, scheduleOf, rowsOf, published, mark, rowBytes, headBytes, scheduleBytes};
 ghost use Rattle.schedule.specs.Check.{scheduleMarked, rowFits, ratesFit, fieldsCheck, scheduleCheck};
 ghost use Rattle.schedule.specs.Fits.{RatesFit};
 ghost use Rattle.schedule.specs.Tiers.{limits, a3LimitOf};
 
 const VERSION: u16 = 1;
 
-// M, in cents: the most that an amount read may be.
-const MOST_AMOUNT: u64 = 10000000000000;
+// How many bytes a schedule has, how many stand before its rows, how many a row has, and how many rows there are.
+pub const SIZE: usize = 122;
+
+const HEAD_SIZE: usize = 10;
+
+const ROW_SIZE: usize = 14;
+
+const ROW_COUNT: usize = 8;
 
 // "percent kept after the first downgrade step, (..) after the second, then rows c, d, e, f, g, h, i, z"
 pub struct Schedule {
@@ -34,11 +40,11 @@ pub struct Schedule {
 }
 
 // The published schedule (A1 to A3): percents kept, and rows c, d, e, f, g, h, i, z.
-pub const FIRST: u64 = 66;
+const FIRST: u64 = 66;
 
-pub const SECOND: u64 = 34;
+const SECOND: u64 = 34;
 
-pub const ROWS: [Row; 8] = [
+const ROWS: [Row; ROW_COUNT] = [
     // c
     Row {
         rate: 250,
@@ -97,24 +103,6 @@ pub const ROWS: [Row; 8] = [
     },
 ];
 
-pub fn published() -> Schedule
-    ensures { λ r. ⌜ r ≡ published ⌝ }
-{
-    let rows = ROWS;
-    Schedule {
-        first: FIRST,
-        second: SECOND,
-        c: rows[0],
-        d: rows[1],
-        e: rows[2],
-        f: rows[3],
-        g: rows[4],
-        h: rows[5],
-        i: rows[6],
-        z: rows[7],
-    }
-}
-
 // A rate or percent: a u16.
 fn rate_at(s: &[u8], at: usize) -> u64
     requires { ⌜ at + 2 ≤ length (now s) ⌝ }
@@ -125,20 +113,21 @@ fn rate_at(s: &[u8], at: usize) -> u64
 
 // Row n of a schedule: 0 is c, 7 is z.
 fn row_at(s: &[u8], n: usize) -> Row
-    requires { ⌜ (n < 8) × (122 ≤ length (now s)) ⌝ }
+    requires { ⌜ (n < rowCount) × (scheduleSize ≤ length (now s)) ⌝ }
     ensures { λ r. ⌜ r ≡ rowAt (now (s .entry)) n ⌝ }
 {
+    let at = HEAD_SIZE + ROW_SIZE * n;
     Row {
-        rate: rate_at(s, 10 + 14 * n),
-        second: rate_at(s, 12 + 14 * n),
-        base_rate: rate_at(s, 14 + 14 * n),
-        fixed: wire::u64_at(s, 16 + 14 * n),
+        rate: rate_at(s, at),
+        second: rate_at(s, at + 2),
+        base_rate: rate_at(s, at + 4),
+        fixed: wire::u64_at(s, at + 6),
     }
 }
 
-// The schedule of 122 bytes.
+// The schedule that the bytes hold.
 pub fn schedule_at(s: &[u8]) -> Schedule
-    requires { ⌜ 122 ≤ length (now s) ⌝ }
+    requires { ⌜ scheduleSize ≤ length (now s) ⌝ }
     ensures { λ r. ⌜ r ≡ scheduleOf (now (s .entry)) ⌝ }
 {
     Schedule {
@@ -157,7 +146,7 @@ pub fn schedule_at(s: &[u8]) -> Schedule
 
 // "ACL", a zero byte.
 fn marked(s: &[u8]) -> bool
-    requires { ⌜ 122 ≤ length (now s) ⌝ }
+    requires { ⌜ scheduleSize ≤ length (now s) ⌝ }
     ensures { λ r. ⌜ r ≡ scheduleMarked (now (s .entry)) ⌝ }
 {
     (s[0] == b'A') & (s[1] == b'C') & (s[2] == b'L') & (s[3] == 0)
@@ -169,7 +158,7 @@ fn row_fits(row: Row) -> bool
     (row.rate <= limit::MOST_RATE)
         & (row.second <= limit::MOST_RATE)
         & (row.base_rate <= limit::MOST_RATE)
-        & (row.fixed <= MOST_AMOUNT)
+        & (row.fixed <= wire::M)
 }
 
 fn rates_fit(s: Schedule) -> bool
@@ -189,7 +178,7 @@ fn rates_fit(s: Schedule) -> bool
 
 // Refusals 2 to 4, of a schedule that has its length.
 fn check_fields(s: &[u8]) -> Checked
-    requires { ⌜ 122 ≤ length (now s) ⌝ }
+    requires { ⌜ scheduleSize ≤ length (now s) ⌝ }
     ensures { λ r. ⌜ r ≡ fieldsCheck (now (s .entry)) ⌝ }
 {
     let mark = refusal::unless(Refusal::ScheduleMark, marked(s));
@@ -202,14 +191,14 @@ fn check_fields(s: &[u8]) -> Checked
 pub fn check(s: &[u8]) -> Checked
     ensures { λ r. ⌜ r ≡ scheduleCheck (now (s .entry)) ⌝ }
 {
-    if s.len() != 122 {
+    if s.len() != SIZE {
         return Checked::Bad(Refusal::ScheduleLength);
     }
     check_fields(s)
 }
 
 // The thirteen limits of a fund, by tier number; `stressed` is VAF′.
-pub fn limits(s: Schedule, vaf: u64, stressed: u64, base: i64, w: u64) -> [u64; 13]
+pub fn limits(s: Schedule, vaf: u64, stressed: u64, base: i64, w: u64) -> [u64; cascade::TIERS]
     requires { ⌜ RatesFit s ⌝ }
     requires { ⌜ (vaf ≤ M) × (stressed ≤ M) × (counted base ≤ M) ⌝ }
     ensures { λ r. ⌜ r ≡ limits s vaf stressed base w ⌝ }
@@ -253,7 +242,7 @@ fn put_mark(d: &mut [u8])
 
 // The published schedule's bytes before its rows.
 fn put_head(d: &mut [u8])
-    requires { ⌜ 10 ≤ length (now d) ⌝ }
+    requires { ⌜ headSize ≤ length (now d) ⌝ }
     ensures { λ _. ⌜ now (d .exit) ≡ placed (now (d .entry)) 0 (headBytes published) ⌝ }
 {
     put_mark(d);
@@ -264,7 +253,7 @@ fn put_head(d: &mut [u8])
 
 fn put_row(d: &mut [u8], at: usize, row: Row)
     requires { ⌜ RowFits row ⌝ }
-    requires { ⌜ at + 14 ≤ length (now d) ⌝ }
+    requires { ⌜ at + rowSize ≤ length (now d) ⌝ }
     ensures { λ _. ⌜ now (d .exit) ≡ placed (now (d .entry)) at (rowBytes row) ⌝ }
 {
     wire::put_u16(d, at, row.rate as u16);
@@ -275,17 +264,17 @@ fn put_row(d: &mut [u8], at: usize, row: Row)
 
 // The published schedule's rows.
 fn put_rows(d: &mut [u8])
-    requires { ⌜ 122 ≤ length (now d) ⌝ }
-    ensures { λ _. ⌜ now (d .exit) ≡ placed (now (d .entry)) 10 (eachOf rowBytes (rowsOf published)) ⌝ }
+    requires { ⌜ scheduleSize ≤ length (now d) ⌝ }
+    ensures { λ _. ⌜ now (d .exit) ≡ placed (now (d .entry)) headSize (eachOf rowBytes (rowsOf published)) ⌝ }
 {
-    for n in 0..8 {
-        put_row(d, 10 + 14 * n, ROWS[n]);
+    for n in 0..ROW_COUNT {
+        put_row(d, HEAD_SIZE + ROW_SIZE * n, ROWS[n]);
     }
 }
 
-// The published schedule's 122 bytes.
+// The published schedule's bytes.
 pub fn put_published(d: &mut [u8])
-    requires { ⌜ 122 ≤ length (now d) ⌝ }
+    requires { ⌜ scheduleSize ≤ length (now d) ⌝ }
     ensures { λ _. ⌜ now (d .exit) ≡ placed (now (d .entry)) 0 (scheduleBytes published) ⌝ }
 {
     put_head(d);

@@ -21,9 +21,9 @@ use Rattle.book.specs.AcceptedLaws.{accepted}
 use Rattle.exposure.specs.Values.{fundCheck}
 use Rattle.figures.proofs.Size.{report-long, lines-most}
 use Rattle.schedule.specs.Check.{scheduleCheck}
-use Rattle.schedule.specs.Schedule.{published, scheduleBytes}
+use Rattle.schedule.specs.Schedule.{scheduleSize, published, scheduleBytes}
 use Rattle.schedule.specs.PublishedLaws.{published-length}
-use Rattle.report.specs.Figures.{fundOf}
+use Rattle.fund.specs.Figures.{fundOf}
 use Rattle.report.specs.Answer.{fundIn, reportOf, checkOf, answerOf, writtenBy, Answered}
 use Rattle.weightrose.specs.Exported.{packed, Apart, Reported, Published}
 
@@ -74,13 +74,13 @@ reported schedule book before after a r w e =
       cuts = rw (w .answer) at (w .cuts);
     }
 
-pub too-short : (before : List ℕ) → length before < 122 → Published before before 0
-too-short before h = record { answer = rw (lt-leb 122 (length before) h) refl; bytes = rw (lt-leb 122 (length before) h) refl }
+pub too-short : (before : List ℕ) → length before < scheduleSize → Published before before 0
+too-short before h = record { answer = rw (lt-leb scheduleSize (length before) h) refl; bytes = rw (lt-leb scheduleSize (length before) h) refl }
 
-pub put : (before after : List ℕ) → 122 ≤ length before → after ≡ placed before 0 (scheduleBytes published) → Published before after 122
+pub put : (before after : List ℕ) → scheduleSize ≤ length before → after ≡ placed before 0 (scheduleBytes published) → Published before after scheduleSize
 put before after h e =
-    let n : 0 + length (scheduleBytes published) ≡ 122 = omega (arith, published-length) in
+    let n : 0 + length (scheduleBytes published) ≡ scheduleSize = omega (arith, published-length) in
     record {
-      answer = rw (le-leb 122 (length before) h) refl;
-      bytes = rw (le-leb 122 (length before) h) (e ∙ ap (λ (k : ℕ). scheduleBytes published ++ drop k before) n);
+      answer = rw (le-leb scheduleSize (length before) h) refl;
+      bytes = rw (le-leb scheduleSize (length before) h) (e ∙ ap (λ (k : ℕ). scheduleBytes published ++ drop k before) n);
     }

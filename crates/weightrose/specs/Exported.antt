@@ -12,7 +12,7 @@ use Rattle.words.specs.Words.{_≤?_, if_then_else_}
 use Rattle.refusal.specs.declared.Answer.{Answer}
 use Rattle.refusal.specs.declared.Answer.the-variants.{Report, Refused}
 use Rattle.refusal.specs.Refusals.{numberOf, placeOf}
-use Rattle.schedule.specs.Schedule.{published, scheduleBytes}
+use Rattle.schedule.specs.Schedule.{scheduleSize, published, scheduleBytes}
 use Rattle.report.specs.Answer.{fundIn, reportOf, answerOf, writtenBy, CutsOf}
 
 -- "A refusal is a number and a place": the number in the high 32 bits, the place in the low ones; for a report its length
@@ -32,7 +32,7 @@ pub record Reported (schedule book before after : List ℕ) (r : ℕ) : Type 0 w
   pub bytes : after ≡ writtenBy (answerOf schedule book (length before)) (reportOf schedule book) before
   pub cuts : CutsOf (answerOf schedule book (length before)) (fundIn schedule book) after
 
--- "The published schedule (A1 to A3) is a constant of the product": its 122 bytes where they fit
+-- "The published schedule (A1 to A3) is a constant of the product": its bytes where they fit
 pub record Published (before after : List ℕ) (r : ℕ) : Type 0 where
-  pub answer : r ≡ (if 122 ≤? length before then 122 else 0)
-  pub bytes : after ≡ (if 122 ≤? length before then scheduleBytes published ++ drop 122 before else before)
+  pub answer : r ≡ (if scheduleSize ≤? length before then scheduleSize else 0)
+  pub bytes : after ≡ (if scheduleSize ≤? length before then scheduleBytes published ++ drop scheduleSize before else before)

@@ -23,14 +23,14 @@ pub extern "C" fn weightrose_report(schedule: &[u8], book: &[u8], report: &mut [
     pack(report::report(schedule, book, report))
 }
 
-// The published schedule's 122 bytes, into the lent bytes; 0 and no byte changed where they are fewer.
+// The published schedule's bytes, into the lent bytes, and how many they are; 0 and no byte changed where fewer are lent.
 #[no_mangle]
 pub extern "C" fn weightrose_published(schedule: &mut [u8]) -> u64
     ensures { λ r. ⌜ Published (now (schedule .entry)) (now (schedule .exit)) r ⌝ }
 {
-    if schedule.len() < 122 {
+    if schedule.len() < schedule::SIZE {
         return 0;
     }
     schedule::put_published(schedule);
-    122
+    schedule::SIZE as u64
 }

@@ -1,9 +1,12 @@
-// Little-endian numbers in byte slices: read at a place, written at a place.
+// Little-endian numbers in byte slices: read at a place, written at a place; and the most that an amount may be.
 ghost use mathlib.Core.Path.{_≡_};
 ghost use mathlib.Core.List.{_∷_, []};
 ghost use Prim.Native.Nat.{_+_, _≤_, _<_};
 ghost use lib.ListN.{length};
 ghost use Rattle.wire.specs.Bytes.{u16At, u64At, i64At, sum16, sum64, signedOf, bytes16, bytes64, placed};
+
+// "Amounts are whole cents, each one read at most M".
+pub const M: u64 = 10_000_000_000_000;
 
 fn wide16(x: u8) -> u16
     ensures { λ r. ⌜ (r ≡ x) × (r < 256) ⌝ }

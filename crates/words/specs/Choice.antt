@@ -1,4 +1,4 @@
--- Laws of tests and of a choice: by-test, both, not-both, each-true, not-true, not-false, if-le.
+-- Laws of tests and of a choice: by-test, never, both, not-both, each-true (of tests that are `joined`), not-true, not-false, if-le.
 use mathlib.Core.Bool.{Bool, true, false, not, _&&_}
 use mathlib.Core.List.{List, [], _∷_}
 use mathlib.Core.Path.{_≡_, refl, sym, ap}

@@ -2,3 +2,4 @@ pub mod Words
 pub mod Sums
 pub mod Choice
 pub mod Tables
+pub mod Below

@@ -1,6 +1,6 @@
 -- Laws of sums, of concatenation and of what holds of every element. Over a list: sum-append, sum-each, sum-each-same, sum-length, length-each,
 -- each-append, each-same, each-next, all-at, all-map, all-both, all-count, length-count, count-at.
--- Over a range: sum-add, sum-le, sum-same, sum-first, sum-count (a sum over countFrom is one over the range). Of both: sum-most, sum-swap, sum-once.
+-- Over a range: sum-zero, sum-add, sum-le, sum-same, sum-first, sum-count (a sum over countFrom is one over the range). Of both: sum-most, sum-swap, sum-once.
 use mathlib.Core.Bool.{Bool, true, false}
 use mathlib.Core.List.{List, [], _∷_, _++_, append-assoc, append-nil, map}
 use mathlib.Core.Path.{_≡_, refl, sym, ap, _∙_}
@@ -93,6 +93,11 @@ count-at f a (suc n) (suc k) l = count-at f (a + 1) n k (omega arith) ∙ ap f (
 
 -- ---- over a range
 
+pub sum-zero : (n : ℕ) → sum (λ _. 0) n ≡ 0
+unfolding sum
+sum-zero zero = refl
+sum-zero (suc n) = omega (arith, sum-zero n)
+
 pub sum-add : (f g h : ℕ → ℕ) (n : ℕ) → ((u : ℕ) → u < n → f u + g u ≡ h u) → sum f n + sum g n ≡ sum h n
 unfolding sum
 sum-add f g h zero q = refl
@@ -135,15 +140,9 @@ unfolding sumOf
 sum-most f g [] h = omega arith
 sum-most f g (x ∷ xs) h = omega (arith, h x, sum-most f g xs h)
 
--- of an empty list each sum is 0
-none : (n : ℕ) → sum (λ _. 0) n ≡ 0
-unfolding sum
-none zero = refl
-none (suc n) = omega (arith, none n)
-
 pub sum-swap : {A : Type 0} (f : ℕ → A → ℕ) (n : ℕ) (xs : List A) → sum (λ k. sumOf (f k) xs) n ≡ sumOf (λ x. sum (λ k. f k x) n) xs
 unfolding sumOf
-sum-swap f n [] = none n
+sum-swap f n [] = sum-zero n
 sum-swap f n (x ∷ xs) = sym (sum-add (λ k. f k x) (λ k. sumOf (f k) xs) (λ k. f k x + sumOf (f k) xs) n (λ k _. refl)) ∙ ap (λ (m : ℕ). sum (λ k. f k x) n + m) (sum-swap f n xs)
 
 -- a sum of one thing, taken where a test holds that holds of one number at the most
@@ -153,7 +152,7 @@ sum-once p v zero h = omega arith
 sum-once p v (suc n) h = by (p n) refl (sum-once p v n h)
   where
     nowhere : p n ≡ true → sum (λ k. if p k then v else 0) n ≡ 0
-    nowhere e = sum-same (λ k. if p k then v else 0) (λ _. 0) n (λ k l. by-test (λ m. m ≡ 0) (p k) v 0 (λ t. absurd (let q = h k n t e in omega arith)) (λ _. refl)) ∙ none n
+    nowhere e = sum-same (λ k. if p k then v else 0) (λ _. 0) n (λ k l. by-test (λ m. m ≡ 0) (p k) v 0 (λ t. absurd (let q = h k n t e in omega arith)) (λ _. refl)) ∙ sum-zero n
 
     by : (t : Bool) → p n ≡ t → sum (λ k. if p k then v else 0) n ≤ v → sum (λ k. if p k then v else 0) n + (if t then v else 0) ≤ v
     by true e ih = omega (arith, nowhere e)

@@ -12,19 +12,10 @@ use Rattle.admit.proofs.assets_check.Statement.{statement}
 use Rattle.admit.proofs.assets_check.Tie as tie
 
 abbrev Inv-loop : tie.InvT-loop
-Inv-loop b c n passed₀ passed = Searching Refusal.Asset (λ p. goodAsset (C b) (assetAt b p)) (N b) (passed + 1)
+Inv-loop b c n start passed₀ passed = Searching Refusal.Asset (λ p. goodAsset (C b) (assetAt b p)) (N b) (passed + 1)
 
 abbrev μ-loop : tie.MeasureT-loop
-μ-loop b c n passed₀ passed = N b - passed
-
-u16-at-requires : tie.Need-u16-at-requires Inv-loop μ-loop
-u16-at-requires c κs = omega arith
-
-u16-at-requires-2 : tie.Need-u16-at-requires-2 Inv-loop μ-loop
-u16-at-requires-2 c κs = omega arith
-
-cast-n : tie.Need-cast-n Inv-loop μ-loop
-cast-n c = omega arith
+μ-loop b c n start passed₀ passed = N b - passed
 
 loop-holds : tie.Need-loop-holds Inv-loop μ-loop
 loop-holds c = search-starts _ _ _
@@ -33,13 +24,14 @@ add-place : tie.Need-add-place Inv-loop μ-loop
 add-place c = omega arith
 
 asset-at-requires : tie.Need-asset-at-requires Inv-loop μ-loop
-asset-at-requires c κs = omega arith
+asset-at-requires c κs = (c .before .before .before .pre .3, omega arith, omega arith, omega arith)
 
 good-asset-requires : tie.Need-good-asset-requires Inv-loop μ-loop
 good-asset-requires c κs = omega arith
 
-tested : (c : tie.After-good-asset Inv-loop μ-loop) → c .good-asset .result ≡ goodAsset (C (now (c .before .before .before .before .before .before .before .args .b))) (assetAt (now (c .before .before .before .before .before .before .before .args .b)) (c .before .before .before .loop .passed + 1))
-tested c = c .good-asset .ensures ∙ ap₂ goodAsset (c .before .before .before .before .before .u16-at .ensures) (c .before .asset-at .ensures)
+tested : (c : tie.After-good-asset Inv-loop μ-loop)
+    → c .good-asset .result ≡ goodAsset (C (now (c .before .before .before .before .before .args .b))) (assetAt (now (c .before .before .before .before .before .args .b)) (c .before .before .before .loop .passed + 1))
+tested c = c .good-asset .ensures ∙ ap₂ goodAsset (c .before .before .before .before .before .pre .1) (c .before .asset-at .ensures)
 
 cast-t10 : tie.Need-cast-t10 Inv-loop μ-loop
 cast-t10 c = omega arith
@@ -64,9 +56,6 @@ assets-check-spec =
     (tie.spec
     Inv-loop
     μ-loop
-    u16-at-requires
-    u16-at-requires-2
-    cast-n
     loop-holds
     add-place
     asset-at-requires

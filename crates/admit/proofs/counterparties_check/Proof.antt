@@ -16,12 +16,6 @@ Inv-loop b c passed₀ passed = Searching Refusal.Counterparty (goodCounterparty
 abbrev μ-loop : tie.MeasureT-loop
 μ-loop b c passed₀ passed = C b - passed
 
-u16-at-requires : tie.Need-u16-at-requires Inv-loop μ-loop
-u16-at-requires c κs = omega arith
-
-cast-c : tie.Need-cast-c Inv-loop μ-loop
-cast-c c = omega arith
-
 loop-holds : tie.Need-loop-holds Inv-loop μ-loop
 loop-holds c = search-starts _ _ _
 
@@ -31,8 +25,8 @@ add-place c = omega arith
 good-counterparty-requires : tie.Need-good-counterparty-requires Inv-loop μ-loop
 good-counterparty-requires c κs = omega arith
 
-cast-t8 : tie.Need-cast-t8 Inv-loop μ-loop
-cast-t8 c = omega arith
+cast-t7 : tie.Need-cast-t7 Inv-loop μ-loop
+cast-t7 c = omega arith
 
 returns : tie.Need-returns Inv-loop μ-loop
 unfolding counterpartiesCheck
@@ -54,12 +48,10 @@ counterparties-check-spec =
     (tie.spec
     Inv-loop
     μ-loop
-    u16-at-requires
-    cast-c
     loop-holds
     add-place
     good-counterparty-requires
-    cast-t8
+    cast-t7
     returns
     loop-less
     loop-again

@@ -1,28 +1,27 @@
 -- `counts_add`: place by place, as the definition adds.
+use mathlib.Core.Path.{ap}
 use Prim.Native.Nat.{_+_, _-_}
 use native.Mathlib.Omega.{arith}
+use Rattle.book.specs.declared.Asset.{Asset}
 use Rattle.book.specs.Records.{N}
 use Rattle.admit.proofs.Laws.{Adding, adding-starts, adding-on, adding-ends}
 use Rattle.admit.proofs.counts_add.Statement.{statement}
 use Rattle.admit.proofs.counts_add.Tie as tie
 
 abbrev Inv-loop : tie.InvT-loop
-Inv-loop b n sum₀ place₀ sum place = Adding b sum place
+Inv-loop b n start sum₀ place₀ sum place = Adding b sum place
 
 abbrev μ-loop : tie.MeasureT-loop
-μ-loop b n sum₀ place₀ sum place = N b + 1 - place
-
-u16-at-requires : tie.Need-u16-at-requires Inv-loop μ-loop
-u16-at-requires c κs = omega arith
-
-cast-n : tie.Need-cast-n Inv-loop μ-loop
-cast-n c = omega arith
+μ-loop b n start sum₀ place₀ sum place = N b + 1 - place
 
 loop-holds : tie.Need-loop-holds Inv-loop μ-loop
 loop-holds c = adding-starts _
 
-count-at-requires : tie.Need-count-at-requires Inv-loop μ-loop
-count-at-requires c κs = omega arith
+asset-at-requires : tie.Need-asset-at-requires Inv-loop μ-loop
+asset-at-requires c κs = (c .before .before .before .pre .2, omega arith, omega arith, omega arith)
+
+cast-sum : tie.Need-cast-sum Inv-loop μ-loop
+cast-sum c = omega arith
 
 add-sum : tie.Need-add-sum Inv-loop μ-loop
 add-sum c = omega arith
@@ -34,7 +33,7 @@ loop-less : tie.Need-loop-less Inv-loop μ-loop
 loop-less c = omega arith
 
 loop-again : tie.Need-loop-again Inv-loop μ-loop
-loop-again c = adding-on (c .before .before .loop .inv) (omega arith) (c .count-at .ensures .0) (c .count-at .ensures .1)
+loop-again c = adding-on (c .before .before .before .loop .inv) (omega arith) (ap (λ (a : Asset). a .count) (c .before .asset-at .ensures)) (omega arith)
 
 returns : tie.Need-returns Inv-loop μ-loop
 returns c = adding-ends (c .before .loop .inv) (omega arith)
@@ -45,10 +44,9 @@ counts-add-spec =
     (tie.spec
     Inv-loop
     μ-loop
-    u16-at-requires
-    cast-n
     loop-holds
-    count-at-requires
+    asset-at-requires
+    cast-sum
     add-sum
     add-place
     loop-less

@@ -4,14 +4,14 @@ use borrow.Author.Needs.{needs}
 use Rattle.admit.proofs.header_check.Statement.{statement}
 use Rattle.admit.proofs.header_check.Tie as tie
 
-book-marked-requires : tie.Need-book-marked-requires
-book-marked-requires c κs = search needs
+marked-requires : tie.Need-marked-requires
+marked-requires c κs = search needs
 
 unless-requires : tie.Need-unless-requires
 unless-requires c κs = search needs
 
-u16-at-requires : tie.Need-u16-at-requires
-u16-at-requires c κs = search needs
+version-requires : tie.Need-version-requires
+version-requires c κs = search needs
 
 unless-requires-2 : tie.Need-unless-requires-2
 unless-requires-2 c κs = search needs
@@ -39,15 +39,15 @@ and-then-requires-3 c κs = search needs
 
 returns : tie.Need-returns
 unfolding headerCheck
-returns c = rw (c .and-then3 .ensures, c .before .and-then2 .ensures, c .before .before .and-then .ensures, c .before .before .before .unless4 .ensures, c .before .before .before .before .amounts-fit .ensures, c .before .before .before .before .before .unless3 .ensures, c .before .before .before .before .before .before .counts-fit .ensures, c .before .before .before .before .before .before .before .unless2 .ensures, c .before .before .before .before .before .before .before .before .u16-at .ensures, c .before .before .before .before .before .before .before .before .before .unless .ensures, c .before .before .before .before .before .before .before .before .before .before .book-marked .ensures)
+returns c = rw (c .and-then3 .ensures, c .before .and-then2 .ensures, c .before .before .and-then .ensures, c .before .before .before .unless4 .ensures, c .before .before .before .before .amounts-fit .ensures, c .before .before .before .before .before .unless3 .ensures, c .before .before .before .before .before .before .counts-fit .ensures, c .before .before .before .before .before .before .before .unless2 .ensures, c .before .before .before .before .before .before .before .before .version .ensures, c .before .before .before .before .before .before .before .before .before .unless .ensures, c .before .before .before .before .before .before .before .before .before .before .marked .ensures)
 
 pub header-check-spec : {M : Type 1} → statement M
 header-check-spec =
     tie.close
     (tie.spec
-    book-marked-requires
+    marked-requires
     unless-requires
-    u16-at-requires
+    version-requires
     unless-requires-2
     counts-fit-requires
     unless-requires-3

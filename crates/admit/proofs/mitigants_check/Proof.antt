@@ -12,19 +12,10 @@ use Rattle.admit.proofs.mitigants_check.Statement.{statement}
 use Rattle.admit.proofs.mitigants_check.Tie as tie
 
 abbrev Inv-loop : tie.InvT-loop
-Inv-loop b c k passed₀ passed = Searching Refusal.Mitigant (λ p. goodMitigant (C b) (mitigantAt b p)) (K b) (passed + 1)
+Inv-loop b c k start passed₀ passed = Searching Refusal.Mitigant (λ p. goodMitigant (C b) (mitigantAt b p)) (K b) (passed + 1)
 
 abbrev μ-loop : tie.MeasureT-loop
-μ-loop b c k passed₀ passed = K b - passed
-
-u16-at-requires : tie.Need-u16-at-requires Inv-loop μ-loop
-u16-at-requires c κs = omega arith
-
-u16-at-requires-2 : tie.Need-u16-at-requires-2 Inv-loop μ-loop
-u16-at-requires-2 c κs = omega arith
-
-cast-k : tie.Need-cast-k Inv-loop μ-loop
-cast-k c = omega arith
+μ-loop b c k start passed₀ passed = K b - passed
 
 loop-holds : tie.Need-loop-holds Inv-loop μ-loop
 loop-holds c = search-starts _ _ _
@@ -33,13 +24,14 @@ add-place : tie.Need-add-place Inv-loop μ-loop
 add-place c = omega arith
 
 mitigant-at-requires : tie.Need-mitigant-at-requires Inv-loop μ-loop
-mitigant-at-requires c κs = omega arith
+mitigant-at-requires c κs = (c .before .before .before .pre .3, omega arith, omega arith, omega arith)
 
 good-mitigant-requires : tie.Need-good-mitigant-requires Inv-loop μ-loop
 good-mitigant-requires c κs = omega arith
 
-tested : (c : tie.After-good-mitigant Inv-loop μ-loop) → c .good-mitigant .result ≡ goodMitigant (C (now (c .before .before .before .before .before .before .before .args .b))) (mitigantAt (now (c .before .before .before .before .before .before .before .args .b)) (c .before .before .before .loop .passed + 1))
-tested c = c .good-mitigant .ensures ∙ ap₂ goodMitigant (c .before .before .before .before .before .u16-at .ensures) (c .before .mitigant-at .ensures)
+tested : (c : tie.After-good-mitigant Inv-loop μ-loop)
+    → c .good-mitigant .result ≡ goodMitigant (C (now (c .before .before .before .before .before .args .b))) (mitigantAt (now (c .before .before .before .before .before .args .b)) (c .before .before .before .loop .passed + 1))
+tested c = c .good-mitigant .ensures ∙ ap₂ goodMitigant (c .before .before .before .before .before .pre .1) (c .before .mitigant-at .ensures)
 
 cast-t10 : tie.Need-cast-t10 Inv-loop μ-loop
 cast-t10 c = omega arith
@@ -64,9 +56,6 @@ mitigants-check-spec =
     (tie.spec
     Inv-loop
     μ-loop
-    u16-at-requires
-    u16-at-requires-2
-    cast-k
     loop-holds
     add-place
     mitigant-at-requires

@@ -4,14 +4,8 @@ use borrow.Author.Needs.{needs}
 use Rattle.book.proofs.counterparty_at.Statement.{statement}
 use Rattle.book.proofs.counterparty_at.Tie as tie
 
-sub-at : tie.Need-sub-at
-sub-at c = search needs
-
-mul-at : tie.Need-mul-at
-mul-at c = search needs
-
-add-at : tie.Need-add-at
-add-at c = search needs
+counterparty-start-requires : tie.Need-counterparty-start-requires
+counterparty-start-requires c κs = search needs
 
 add-high-four : tie.Need-add-high-four
 add-high-four c = search needs
@@ -37,23 +31,21 @@ shared-slice-read-low-four c = search needs
 low-four-requires : tie.Need-low-four-requires
 low-four-requires c κs = search needs
 
-add-t5 : tie.Need-add-t5
-add-t5 c = search needs
+add-t11 : tie.Need-add-t11
+add-t11 c = search needs
 
 shared-slice-read-t13 : tie.Need-shared-slice-read-t13
 shared-slice-read-t13 c = search needs
 
 returns : tie.Need-returns
 unfolding counterpartyAt
-returns c = rw (c .before .low-four .ensures, c .before .before .before .u16-at .ensures, c .before .before .before .before .kind-of .ensures, c .before .before .before .before .before .high-four .ensures)
+returns c = rw (c .before .low-four .ensures, c .before .before .before .u16-at .ensures, c .before .before .before .before .kind-of .ensures, c .before .before .before .before .before .high-four .ensures, c .before .before .before .before .before .before .before .counterparty-start .ensures)
 
 pub counterparty-at-spec : {M : Type 1} → statement M
 counterparty-at-spec =
     tie.close
     (tie.spec
-    sub-at
-    mul-at
-    add-at
+    counterparty-start-requires
     add-high-four
     shared-slice-read-high-four
     high-four-requires
@@ -62,6 +54,6 @@ counterparty-at-spec =
     add-low-four
     shared-slice-read-low-four
     low-four-requires
-    add-t5
+    add-t11
     shared-slice-read-t13
     returns)

@@ -19,12 +19,12 @@ reinsurance-fields-fit-requires c κs = search needs
 no-reinsurance-fields-requires : tie.Need-no-reinsurance-fields-requires
 no-reinsurance-fields-requires c κs = search needs
 
-choose-requires : tie.Need-choose-requires
-choose-requires c κs = search needs
+test-requires : tie.Need-test-requires
+test-requires c κs = search needs
 
 returns : tie.Need-returns
 unfolding goodAsset
-returns c = rw (c .choose .ensures, c .before .no-reinsurance-fields .ensures, c .before .before .reinsurance-fields-fit .ensures, c .before .before .before .is-reinsurance .ensures, c .before .before .before .before .amounts-within .ensures, c .before .before .before .before .before .in-book .ensures)
+returns c = rw (c .test .ensures, c .before .no-reinsurance-fields .ensures, c .before .before .reinsurance-fields-fit .ensures, c .before .before .before .is-reinsurance .ensures, c .before .before .before .before .amounts-within .ensures, c .before .before .before .before .before .in-book .ensures)
 
 pub good-asset-spec : {M : Type 1} → statement M
 good-asset-spec =
@@ -35,5 +35,5 @@ good-asset-spec =
     is-reinsurance-requires
     reinsurance-fields-fit-requires
     no-reinsurance-fields-requires
-    choose-requires
+    test-requires
     returns)

@@ -4,14 +4,8 @@ use borrow.Author.Needs.{needs}
 use Rattle.fields.proofs.good_counterparty.Statement.{statement}
 use Rattle.fields.proofs.good_counterparty.Tie as tie
 
-sub-at : tie.Need-sub-at
-sub-at c = search needs
-
-mul-at : tie.Need-mul-at
-mul-at c = search needs
-
-add-at : tie.Need-add-at
-add-at c = search needs
+counterparty-start-requires : tie.Need-counterparty-start-requires
+counterparty-start-requires c κs = search needs
 
 add-packed : tie.Need-add-packed
 add-packed c = search needs
@@ -39,15 +33,13 @@ shared-slice-read-result c = search needs
 
 returns : tie.Need-returns
 unfolding goodCounterparty
-returns c = rw (c .before .high-four .ensures, c .before .before .low-four .ensures, c .before .before .before .u16-at .ensures)
+returns c = rw (c .before .high-four .ensures, c .before .before .low-four .ensures, c .before .before .before .u16-at .ensures, c .before .before .before .before .before .counterparty-start .ensures)
 
 pub good-counterparty-spec : {M : Type 1} → statement M
 good-counterparty-spec =
     tie.close
     (tie.spec
-    sub-at
-    mul-at
-    add-at
+    counterparty-start-requires
     add-packed
     shared-slice-read-packed
     u16-at-requires

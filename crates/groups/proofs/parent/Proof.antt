@@ -1,5 +1,5 @@
 -- `parent` gives the parent of a place: an accepted book stores it as it is.
-use Rattle.groups.proofs.Laws.{parent-stored}
+use Rattle.groups.specs.TableLaws.{parent-stored}
 use denote.Ref.{now}
 use borrow.Author.Needs.{needs}
 use Rattle.groups.proofs.parent.Statement.{statement}

@@ -3,7 +3,7 @@ use mathlib.Core.Path.{refl}
 use native.Mathlib.Omega.{arith}
 use Rattle.words.specs.Words.{eachOf}
 use Rattle.wire.proofs.Laws.{then-placed}
-use Rattle.schedule.specs.Schedule.{published, rowsOf, headBytes, rowBytes, scheduleBytes}
+use Rattle.schedule.specs.Schedule.{headSize, published, rowsOf, headBytes, rowBytes, scheduleBytes}
 use borrow.Author.Needs.{needs}
 use Rattle.schedule.proofs.put_published.Statement.{statement}
 use Rattle.schedule.proofs.put_published.Tie as tie
@@ -23,7 +23,7 @@ returns c =
     let c2 = c .before .before in
     let c1 = c2 .before .before .before .before in
     let s = c1 .before .before .before in
-    then-placed (s .args .d .now) (headBytes published) (eachOf rowBytes (rowsOf published)) 0 10 (c1 .put-head .ensures) (c2 .put-rows .ensures) refl (omega (arith, s .pre))
+    then-placed (s .args .d .now) (headBytes published) (eachOf rowBytes (rowsOf published)) 0 headSize (c1 .put-head .ensures) (c2 .put-rows .ensures) refl (omega (arith, s .pre))
 
 pub put-published-spec : {M : Type 1} → statement M
 put-published-spec = tie.close (tie.spec put-head-requires put-rows-requires same-length returns)

@@ -12,7 +12,7 @@ use Rattle.wire.specs.Bytes.{placed}
 use Rattle.wire.proofs.Laws.{then-placed}
 use Rattle.limit.specs.declared.Row.{Row}
 use Rattle.limit.specs.Bounds.{RowFits}
-use Rattle.schedule.specs.Schedule.{published, rowsOf, rowBytes}
+use Rattle.schedule.specs.Schedule.{scheduleSize, headSize, rowSize, rowCount, rowStart, published, rowsOf, rowBytes}
 use Rattle.schedule.specs.PublishedLaws.{published-fits}
 use Rattle.schedule.proofs.put_rows.Statement.{statement}
 use Rattle.schedule.proofs.put_rows.Tie as tie
@@ -30,29 +30,29 @@ rows-fit n =
     all-at RowFits none (record { rate = omega arith; second = omega arith; base = omega arith; fixed = omega arith }) rows
     (h .c, (h .d, (h .e, (h .f, (h .g, (h .h, (h .i, (h .z, tt)))))))) n
 
-row-length : (r : Row) → length (rowBytes r) ≡ 14
+row-length : (r : Row) → length (rowBytes r) ≡ rowSize
 unfolding rowBytes
 row-length r = refl
 
-rows-length : (n : ℕ) → n ≤ 8 → length (eachOf rowBytes (take n rows)) ≡ 14 * n
-rows-length n h = length-each 14 rowBytes row-length (take n rows) ∙ ap (λ (k : ℕ). 14 * k) (length-take-le n rows h)
+rows-length : (n : ℕ) → n ≤ rowCount → length (eachOf rowBytes (take n rows)) ≡ rowSize * n
+rows-length n h = length-each rowSize rowBytes row-length (take n rows) ∙ ap (λ (k : ℕ). rowSize * k) (length-take-le n rows h)
 
-row-placed : (d₀ d d′ : List ℕ) (n : ℕ) → n < 8 → 122 ≤ length d₀
-    → d ≡ placed d₀ 10 (eachOf rowBytes (take n rows)) → d′ ≡ placed d (10 + 14 * n) (rowBytes (getD rows n none))
-    → d′ ≡ placed d₀ 10 (eachOf rowBytes (take (n + 1) rows))
+row-placed : (d₀ d d′ : List ℕ) (n : ℕ) → n < rowCount → scheduleSize ≤ length d₀
+    → d ≡ placed d₀ headSize (eachOf rowBytes (take n rows)) → d′ ≡ placed d (rowStart n) (rowBytes (getD rows n none))
+    → d′ ≡ placed d₀ headSize (eachOf rowBytes (take (n + 1) rows))
 row-placed d₀ d d′ n h l e e′ =
-    then-placed d₀ (eachOf rowBytes (take n rows)) (rowBytes (getD rows n none)) 10 (14 * n) e e′ (rows-length n (omega arith)) (omega (arith, row-length (getD rows n none)))
-    ∙ ap (λ (vs : List ℕ). placed d₀ 10 vs) (sym (ap (λ (k : ℕ). eachOf rowBytes (take k rows)) (add-one n) ∙ each-next rowBytes none rows n h))
+    then-placed d₀ (eachOf rowBytes (take n rows)) (rowBytes (getD rows n none)) headSize (rowSize * n) e e′ (rows-length n (omega arith)) (omega (arith, row-length (getD rows n none)))
+    ∙ ap (λ (vs : List ℕ). placed d₀ headSize vs) (sym (ap (λ (k : ℕ). eachOf rowBytes (take k rows)) (add-one n) ∙ each-next rowBytes none rows n h))
 
 abbrev Inv-loop : tie.InvT-loop
-Inv-loop d₀ n₀ d n = (n ≤ 8) × (length d ≡ length d₀) × (d ≡ placed d₀ 10 (eachOf rowBytes (take n rows)))
+Inv-loop d₀ n₀ d n = (n ≤ rowCount) × (length d ≡ length d₀) × (d ≡ placed d₀ headSize (eachOf rowBytes (take n rows)))
 
 abbrev μ-loop : tie.MeasureT-loop
-μ-loop d₀ n₀ d n = 8 - n
+μ-loop d₀ n₀ d n = rowCount - n
 
 loop-holds : tie.Need-loop-holds Inv-loop μ-loop
 unfolding eachOf
-loop-holds c = (omega arith, refl, sets-eq [] (c .before .args .d .now) 10 (omega arith))
+loop-holds c = (omega arith, refl, sets-eq [] (c .before .args .d .now) headSize (omega arith))
 
 mul-put-row : tie.Need-mul-put-row Inv-loop μ-loop
 mul-put-row c = omega arith
@@ -88,8 +88,8 @@ same-length c = omega arith
 returns : tie.Need-returns Inv-loop μ-loop
 returns c =
     let l = c .before .loop in
-    let e : l .n ≡ 8 = omega arith in
-    l .inv .2 ∙ ap (λ (k : ℕ). placed (c .before .before .before .args .d .now) 10 (eachOf rowBytes (take k rows))) e
+    let e : l .n ≡ rowCount = omega arith in
+    l .inv .2 ∙ ap (λ (k : ℕ). placed (c .before .before .before .args .d .now) headSize (eachOf rowBytes (take k rows))) e
 
 pub put-rows-spec : {M : Type 1} → statement M
 put-rows-spec =

@@ -4,35 +4,26 @@ use borrow.Author.Needs.{needs}
 use Rattle.schedule.proofs.row_at.Statement.{statement}
 use Rattle.schedule.proofs.row_at.Tie as tie
 
-mul-rate-at : tie.Need-mul-rate-at
-mul-rate-at c = search needs
+mul-at : tie.Need-mul-at
+mul-at c = search needs
 
-add-rate-at : tie.Need-add-rate-at
-add-rate-at c = search needs
+add-at : tie.Need-add-at
+add-at c = search needs
 
 rate-at-requires : tie.Need-rate-at-requires
 rate-at-requires c κs = search needs
 
-mul-rate-at-2 : tie.Need-mul-rate-at-2
-mul-rate-at-2 c = search needs
-
-add-rate-at-2 : tie.Need-add-rate-at-2
-add-rate-at-2 c = search needs
+add-rate-at : tie.Need-add-rate-at
+add-rate-at c = search needs
 
 rate-at-requires-2 : tie.Need-rate-at-requires-2
 rate-at-requires-2 c κs = search needs
 
-mul-rate-at-3 : tie.Need-mul-rate-at-3
-mul-rate-at-3 c = search needs
-
-add-rate-at-3 : tie.Need-add-rate-at-3
-add-rate-at-3 c = search needs
+add-rate-at-2 : tie.Need-add-rate-at-2
+add-rate-at-2 c = search needs
 
 rate-at-requires-3 : tie.Need-rate-at-requires-3
 rate-at-requires-3 c κs = search needs
-
-mul-u64-at : tie.Need-mul-u64-at
-mul-u64-at c = search needs
 
 add-u64-at : tie.Need-add-u64-at
 add-u64-at c = search needs
@@ -52,16 +43,13 @@ pub row-at-spec : {M : Type 1} → statement M
 row-at-spec =
     tie.close
     (tie.spec
-    mul-rate-at
-    add-rate-at
+    mul-at
+    add-at
     rate-at-requires
-    mul-rate-at-2
-    add-rate-at-2
+    add-rate-at
     rate-at-requires-2
-    mul-rate-at-3
-    add-rate-at-3
+    add-rate-at-2
     rate-at-requires-3
-    mul-u64-at
     add-u64-at
     u64-at-requires
     returns)

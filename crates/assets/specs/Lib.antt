@@ -1,0 +1,4 @@
+pub mod Marks
+pub mod Shares
+pub mod Entered
+pub mod Assets

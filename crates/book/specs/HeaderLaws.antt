@@ -1,0 +1,15 @@
+-- A header that was read, number by number: header-counts, header-amounts.
+use mathlib.Core.List.{List}
+use mathlib.Core.Path.{_≡_, ap}
+use Prim.Native.Nat.{ℕ}
+use Rattle.book.specs.declared.Header.{Header}
+use Rattle.book.specs.Records.{C, N, K, total, base, excluded, headerAt}
+
+module _ (b : List ℕ) {h : Header} (e : h ≡ headerAt b) where
+  pub header-counts : (h .counterparties ≡ C b) × (h .assets ≡ N b) × (h .mitigants ≡ K b)
+  unfolding headerAt
+  header-counts = (ap (λ (x : Header). x .counterparties) e, ap (λ (x : Header). x .assets) e, ap (λ (x : Header). x .mitigants) e)
+
+  pub header-amounts : (h .total ≡ total b) × (h .base ≡ base b) × (h .excluded ≡ excluded b)
+  unfolding headerAt
+  header-amounts = (ap (λ (x : Header). x .total) e, ap (λ (x : Header). x .base) e, ap (λ (x : Header). x .excluded) e)

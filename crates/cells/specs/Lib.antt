@@ -1,0 +1,6 @@
+pub mod Cells
+pub mod Ranges
+pub mod Adding
+pub mod CellLaws
+pub mod CellSums
+pub mod GroupSums

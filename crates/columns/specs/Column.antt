@@ -1,0 +1,123 @@
+-- The column of an exposure in its group's row: its tier's own number; but `billColumn` for tier c of kind 3, which makes up W, and from
+-- `a3Columns` on the tiers 1, 3, 4, 5, 6 of a counterparty not of kind 4, which count for A3.
+--   a3Tiers a3Column columnBy columnOf   the column
+--   tierIn                               the tier that a column is part of
+-- Two numbers of a counterparty, in digits to the base 32:
+--   classOf digit                        all that they depend on, as a number below 80; a digit
+--   wordAt wordOf                        the columns of exposures to it: digit kind - 1 for each kind but 9, digit 8 for what a guarantee covers
+--   digitOf                              the digit of what a form of mitigant covers
+--   termsAt termsOf                      the columns of reinsurance, `ageOf` saying which; then a bit, `halved`; then `trustOf`
+--   ageOf halved trustOf                 entry and months together; whether half may be covered; how far its promises count
+use mathlib.Core.Bool.{Bool, not, _&&_}
+use mathlib.Core.List.{List, [], _∷_}
+use Prim.Native.Nat.{ℕ, _+_, _*_, _-_, _/_, _%_, _^_}
+use lib.ListN.{getD}
+use Rattle.words.specs.Words.{_≤?_, _=?_, if_then_else_}
+use Rattle.cascade.specs.Cascade.{tiers}
+use Rattle.book.specs.declared.Kind.the-variants.{Bank, LifeCompany}
+use Rattle.book.specs.declared.Counterparty.{Counterparty}
+use Rattle.book.specs.Fields.{kindNumber, _is_, graded, related, affiliate}
+use Rattle.exposure.specs.declared.Exposure.{Exposure}
+use Rattle.exposure.specs.Tier.{tierBy}
+use Rattle.rows.specs.Rows.{billColumn, a3Columns}
+
+-- the tiers of which A3 counts exposures to counterparties not of kind 4
+abbrev pub a3Tiers : List ℕ
+a3Tiers = 1 ∷ 3 ∷ 4 ∷ 5 ∷ 6 ∷ []
+
+-- the column of a tier, where the counterparty is of kind 4 or not
+unfoldable pub a3Column : Bool → ℕ → ℕ
+a3Column life t =
+    if life then t
+    else if t =? 1 then a3Columns
+    else if t =? 3 then a3Columns + 1
+    else if t =? 4 then a3Columns + 2
+    else if t =? 5 then a3Columns + 3
+    else if t =? 6 then a3Columns + 4
+    else t
+
+-- and where the exposure is of kind 3 or not
+unfoldable pub columnBy : Bool → Bool → ℕ → ℕ
+columnBy bill life t = if t =? 11 && bill then billColumn else a3Column life t
+
+unfoldable pub columnOf : Exposure → Counterparty → ℕ
+columnOf x who = columnBy (x .kind =? 3) (who is LifeCompany) (tierBy x who)
+
+unfoldable pub tierIn : ℕ → ℕ
+tierIn c = if c ≤? tiers then c else getD (11 ∷ a3Tiers) (c - billColumn) 0
+
+-- kind, whether graded, and flags
+unfoldable pub classOf : Counterparty → ℕ
+classOf who = 16 * kindNumber (who .kind) + (if graded who then 8 else 0) + who .flags
+
+-- digit n, the last being digit 0
+unfoldable pub digit : ℕ → ℕ → ℕ
+digit n number = number / 2 ^ (5 * n) % 32
+
+unfoldable pub wordAt : ℕ → ℕ
+wordAt class = getD (
+    68786585600 ∷ 68786585600 ∷ 68786585600 ∷ 68786585600 ∷
+    68786585600 ∷ 68786585600 ∷ 68786585600 ∷ 68786585600 ∷
+    72638703667266 ∷ 72638703667266 ∷ 72638703667266 ∷ 72638703667266 ∷
+    72638703667266 ∷ 72638703667266 ∷ 72638703667266 ∷ 72638703667266 ∷
+    15461949782016 ∷ 15461949782016 ∷ 15461949782016 ∷ 15461949782016 ∷
+    15461949782016 ∷ 15461949782016 ∷ 15461949782016 ∷ 15461949782016 ∷
+    85832843540546 ∷ 85832843540546 ∷ 85832843540546 ∷ 85832843540546 ∷
+    85832843540546 ∷ 85832843540546 ∷ 85832843540546 ∷ 85832843540546 ∷
+    14362437746701 ∷ 14362437746701 ∷ 14362437746701 ∷ 14362437746701 ∷
+    14362437746701 ∷ 14362437746701 ∷ 14362437746701 ∷ 14362437746701 ∷
+    84733331572813 ∷ 84733331572813 ∷ 84733331572813 ∷ 84733331572813 ∷
+    84733331572813 ∷ 84733331572813 ∷ 84733331572813 ∷ 84733331572813 ∷
+    12163426025472 ∷ 12163426025472 ∷ 12163426025472 ∷ 12163426025472 ∷
+    12163426025472 ∷ 12163426025472 ∷ 12163426025472 ∷ 12163426025472 ∷
+    82534317754434 ∷ 82534317754434 ∷ 82534317754434 ∷ 82534317754434 ∷
+    82534317754434 ∷ 82534317754434 ∷ 82534317754434 ∷ 82534317754434 ∷
+    68786585600 ∷ 68786586016 ∷ 68786585600 ∷ 68786586016 ∷
+    68786585600 ∷ 68786586016 ∷ 68786585600 ∷ 68786586016 ∷
+    354113680377922 ∷ 354113680378274 ∷ 354113680377922 ∷ 354113680378274 ∷
+    354113680377922 ∷ 354113680378274 ∷ 354113680377922 ∷ 354113680378274 ∷ []) class 0
+
+unfoldable pub wordOf : Counterparty → ℕ
+wordOf who = wordAt (classOf who)
+
+-- of what cash, a government security, debt and a letter cover, that of its kind
+unfoldable pub digitOf : ℕ → ℕ
+digitOf form = getD (0 ∷ 3 ∷ 0 ∷ 6 ∷ 8 ∷ 2 ∷ []) form 0
+
+unfoldable pub termsAt : ℕ → ℕ
+termsAt class = getD (
+    1713148490916806127 ∷ 1713148490916806127 ∷ 560226986309959151 ∷ 560226986309959151 ∷
+    1713148490916806127 ∷ 1713148490916806127 ∷ 560226986309959151 ∷ 560226986309959151 ∷
+    6359663783476478480 ∷ 4053820774262784528 ∷ 5318315327702552179 ∷ 3012472318488858227 ∷
+    6099326669532996905 ∷ 3793483660319302953 ∷ 4946405164926149929 ∷ 2640562155712455977 ∷
+    1713148490916806127 ∷ 1713148490916806127 ∷ 560226986309959151 ∷ 560226986309959151 ∷
+    1713148490916806127 ∷ 1713148490916806127 ∷ 560226986309959151 ∷ 560226986309959151 ∷
+    8665506792690172432 ∷ 4053820774262784528 ∷ 7624158336916246131 ∷ 3012472318488858227 ∷
+    8405169678746690857 ∷ 3793483660319302953 ∷ 7252248174139843881 ∷ 2640562155712455977 ∷
+    1713148490916806127 ∷ 1713148490916806127 ∷ 560226986309959151 ∷ 560226986309959151 ∷
+    1713148490916806127 ∷ 1713148490916806127 ∷ 560226986309959151 ∷ 560226986309959151 ∷
+    6359663783476478480 ∷ 4053820774262784528 ∷ 5318315327702552179 ∷ 3012472318488858227 ∷
+    6099326669532996905 ∷ 3793483660319302953 ∷ 4946405164926149929 ∷ 2640562155712455977 ∷
+    1713148490916806127 ∷ 1713148490916806127 ∷ 560226986309959151 ∷ 560226986309959151 ∷
+    1713148490916806127 ∷ 1713148490916806127 ∷ 560226986309959151 ∷ 560226986309959151 ∷
+    6359663783476478480 ∷ 4053820774262784528 ∷ 5318315327702552179 ∷ 3012472318488858227 ∷
+    6099326669532996905 ∷ 3793483660319302953 ∷ 4946405164926149929 ∷ 2640562155712455977 ∷
+    40714957730382881 ∷ 40714957730382881 ∷ 40714957730382881 ∷ 40714957730382881 ∷
+    40714957730382881 ∷ 40714957730382881 ∷ 40714957730382881 ∷ 40714957730382881 ∷
+    4946405164926149929 ∷ 2417416058046614627 ∷ 4946405164926149929 ∷ 2417416058046614627 ∷
+    4946405164926149929 ∷ 2640562155712455977 ∷ 4946405164926149929 ∷ 2640562155712455977 ∷ []) class 0
+
+unfoldable pub termsOf : Counterparty → ℕ
+termsOf who = termsAt (classOf who)
+
+-- "months 0 to 2, (..) 3 to 11, (..) 12 to 23; otherwise", for each entry
+unfoldable pub ageOf : ℕ → ℕ → ℕ
+ageOf entry months = 4 * entry + (if months ≤? 2 then 0 else if months ≤? 11 then 1 else if months ≤? 23 then 2 else 3)
+
+-- "neither of kind 4 nor an approved affiliate"
+abbrev pub halved : Counterparty → Bool
+halved who = not (who is LifeCompany) && not (affiliate who)
+
+-- 0 not graded, 1 graded, 2 and not related, 3 and a bank
+unfoldable pub trustOf : Counterparty → ℕ
+trustOf who = if graded who then (if related who then 1 else if who is Bank then 3 else 2) else 0

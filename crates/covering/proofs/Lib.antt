@@ -1,0 +1,4 @@
+mod Lesser
+mod Part
+mod Run
+mod Running

@@ -1,0 +1,129 @@
+-- `make`: what 14 and 15 find, and the fund where they find nothing.
+use mathlib.Core.Path.{sym, _∙_}
+use Rattle.fund.proofs.Limits.{taken}
+use Rattle.fund.proofs.Drawing.{exposed}
+use borrow.Author.Needs.{needs}
+use Rattle.fund.proofs.make.Statement.{statement}
+use Rattle.fund.proofs.make.Tie as tie
+use Rattle.fund.proofs.make.Reads as reads
+use Rattle.fund.proofs.make.Lts as lts
+use Rattle.fund.proofs.draw.Reads as draw-reads
+use Rattle.fund.proofs.rate.Reads as rate-reads
+use Rattle.fund.proofs.refused.Reads as refused-reads
+use Rattle.values.proofs.check.Reads as check-reads
+
+-- src/lib.rt:153:9
+draw-requires : tie.Need-draw-requires
+draw-requires c κs =
+    let s = c .before .before .before .before .before .before .before .before .before .before .before .before .before .before .before .before .before in (taken (s .pre .0), s .pre .1, s .pre .2, s .pre .3, s .pre .4)
+
+-- src/lib.rt:158:9
+check-requires : tie.Need-check-requires
+check-requires c κs =
+    let s = c .before .before .before .before .before .before .before .before .before .before .before .before .before .before .before .before .before .before .before .before .before .before .before .before .before .before .before .before .before .before .before .before in (taken (s .pre .0), c .before .before .before .before .before .before .before .before .before .before .before .before .before .before .draw .ensures .1 .of-assets)
+
+-- src/lib.rt:160:22
+enum-known-found : tie.Need-enum-known-found
+enum-known-found c = search needs
+
+-- src/lib.rt:160:30
+refused-requires : tie.Need-refused-requires
+refused-requires c κs = search needs
+
+-- src/lib.rt:161:69
+enum-told : tie.Need-enum-told
+enum-told c = search needs
+
+-- src/lib.rt:161:26
+rate-requires : tie.Need-rate-requires
+rate-requires c κs =
+    let s = c .before .before .before .before .before .before .before .before .before .before .before .before .before .before .before .before .before .before .before .before .before .before .before .before .before .before .before .before .before .before .before .before .before .before .before .before in
+    let t = c .before .before .before .before .before .before .before .before .before .before .before .before .before .before .before .before .before .before .draw .ensures in
+    (s .pre .0, sym (c .before .before .before .check .ensures) ∙ c .before .enum-told .given .1, s .pre .1, t .1, exposed (t .0) (s .pre .4))
+
+-- src/lib.rt:135:1
+same-length : tie.Need-same-length
+same-length c = search needs
+
+-- src/lib.rt:135:1
+same-length-2 : tie.Need-same-length-2
+same-length-2 c = search needs
+
+-- src/lib.rt:135:1
+same-length-3 : tie.Need-same-length-3
+same-length-3 c = search needs
+
+-- src/lib.rt:135:1
+same-length-4 : tie.Need-same-length-4
+same-length-4 c = search needs
+
+-- src/lib.rt:135:1
+same-length-5 : tie.Need-same-length-5
+same-length-5 c = search needs
+
+-- src/lib.rt:135:1
+same-length-6 : tie.Need-same-length-6
+same-length-6 c = search needs
+
+-- src/lib.rt:135:1
+returns : tie.Need-returns
+returns c =
+    let t = c .before .before .before .before .before .before .before .before .before .before .before .before .before .before .before .before .before .before .before .draw .ensures in
+    let e = sym (c .before .before .before .before .check .ensures) ∙ c .before .before .found .given .1 in
+    (t .0, rw e (c .refused .ensures))
+
+-- src/lib.rt:135:1
+same-length-7 : tie.Need-same-length-7
+same-length-7 c = search needs
+
+-- src/lib.rt:135:1
+same-length-8 : tie.Need-same-length-8
+same-length-8 c = search needs
+
+-- src/lib.rt:135:1
+same-length-9 : tie.Need-same-length-9
+same-length-9 c = search needs
+
+-- src/lib.rt:135:1
+same-length-10 : tie.Need-same-length-10
+same-length-10 c = search needs
+
+-- src/lib.rt:135:1
+same-length-11 : tie.Need-same-length-11
+same-length-11 c = search needs
+
+-- src/lib.rt:135:1
+same-length-12 : tie.Need-same-length-12
+same-length-12 c = search needs
+
+-- src/lib.rt:135:1
+returns-2 : tie.Need-returns-2
+returns-2 c =
+    let t = c .before .before .before .before .before .before .before .before .before .before .before .before .before .before .before .before .before .before .before .draw .ensures in
+    let e = sym (c .before .before .before .before .check .ensures) ∙ c .before .before .enum-told .given .1 in
+    (t .0, rw e (c .rate .ensures))
+
+pub make-spec : {M : Type 1} → statement M
+make-spec =
+    tie.close
+    (tie.spec
+    draw-requires
+    check-requires
+    enum-known-found
+    refused-requires
+    enum-told
+    rate-requires
+    same-length
+    same-length-2
+    same-length-3
+    same-length-4
+    same-length-5
+    same-length-6
+    returns
+    same-length-7
+    same-length-8
+    same-length-9
+    same-length-10
+    same-length-11
+    same-length-12
+    returns-2)

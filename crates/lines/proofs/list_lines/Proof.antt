@@ -1,0 +1,134 @@
+-- `list_lines` meets its contract. The loop's invariant: the entries of the groups that are still to come, tried from the place reached, leave what all
+-- of them leave; those that have a line make up the count with the lines so far; and the sets of the groups passed are put.
+use mathlib.Core.Path.{_≡_, refl, ap, sym, _∙_}
+use mathlib.Core.List.{List, _∷_, []}
+use Prim.Native.Nat.{ℕ, _+_, _*_, _-_, _≤_}
+use native.Mathlib.Omega.{arith}
+use denote.Ref.{now}
+use lib.Count.{ones}
+use lib.ListN.{length, length-set}
+use Rattle.words.specs.Words.{those}
+use Rattle.cascade.specs.Cascade.{tiers}
+use Rattle.lines.specs.Listing.{shown, allEntries, entriesOf, tried}
+use Rattle.lines.proofs.Putting.{Putting, put-start, put-piece, put-end}
+use Rattle.lines.proofs.Tries.{tried-long}
+use Rattle.lines.proofs.Entries.{ones-small, entries-ones}
+use Rattle.lines.proofs.Heads.{lines-ones}
+use Rattle.lines.proofs.Groups.{later, later-first, later-end, none-counted, none-tried, set-is, count-step, list-step, setAt, allSets, laterSets, sets-long, sets-first, sets-step, sets-end, set-placed}
+use borrow.Author.Needs.{needs}
+use Rattle.lines.proofs.list_lines.Statement.{statement}
+use Rattle.lines.proofs.list_lines.Tie as tie
+
+abbrev Inv-loop : tie.InvT-loop
+Inv-loop cells groups ranking sets₀ list₀ lines₀ k₀ sets list lines k =
+    (k ≤ groups) × (lines ≤ tiers * k) × (lines + length (those (shown cells) (later groups ranking k)) ≡ length (entriesOf cells groups ranking)) × (length list ≡ length list₀)
+    × (tried (shown cells) lines (later groups ranking k) list ≡ tried (shown cells) 0 (allEntries groups ranking) list₀)
+    × Putting sets₀ 0 (allSets cells groups) sets k (laterSets cells groups k)
+
+abbrev μ-loop : tie.MeasureT-loop
+μ-loop cells groups ranking sets₀ list₀ lines₀ k₀ sets list lines k = groups - k
+
+loop-holds : tie.Need-loop-holds Inv-loop μ-loop
+loop-holds c =
+    let a = c .before .before .before .args in
+    let cells = now (a .cells) in
+    let n = later-first (a .groups) (a .ranking) in (
+      omega arith,
+      omega arith,
+      omega (arith, ap (λ (es : List ℕ). length (those (shown cells) es)) n),
+      refl,
+      ap (λ (es : List ℕ). tried (shown cells) 0 es (now (a .list))) (sym n),
+      rw (← sets-first cells (a .groups)) (put-start (now (a .sets)) 0 (allSets cells (a .groups))),
+    )
+
+row-of-requires : tie.Need-row-of-requires Inv-loop μ-loop
+row-of-requires c κs = omega (arith, c .before .before .before .before .before .pre .rows)
+
+list-group-requires : tie.Need-list-group-requires Inv-loop μ-loop
+list-group-requires c κs = search needs
+
+mul-sets : tie.Need-mul-sets Inv-loop μ-loop
+mul-sets c = search needs
+
+slice-write-sets : tie.Need-slice-write-sets Inv-loop μ-loop
+slice-write-sets c = search needs
+
+-- a group has a line to each tier at the most
+few : (c : tie.After-slice-known3 Inv-loop μ-loop) → ones (c .before .before .list-group .result) ≤ tiers
+few c = rw (c .before .before .list-group .ensures .0) (ones-small (c .before .before .before .before .row-of .result))
+
+cast-lines : tie.Need-cast-lines Inv-loop μ-loop
+cast-lines c = record { fits = omega (arith, few c) }
+
+add-lines : tie.Need-add-lines Inv-loop μ-loop
+add-lines c = record { fits = omega (arith, few c, c .before .before .before .before .before .before .before .before .before .before .pre .few) }
+
+add-k : tie.Need-add-k Inv-loop μ-loop
+add-k c = search needs
+
+loop-less : tie.Need-loop-less Inv-loop μ-loop
+loop-less c = search needs
+
+loop-again : tie.Need-loop-again Inv-loop μ-loop
+loop-again c =
+    let s = c .before .before .before .before .before .before .before .before .before .before in
+    let l = c .before .before .before .before .before .before .loop in
+    let g = c .before .before .list-group in
+    let r = c .before .before .before .before .row-of in
+    let a = s .args in
+    let cells = now (a .cells) in
+    let set = set-is cells (a .groups) (a .ranking) (s .pre .ranks) (l .k) (omega arith) (r .ensures) (g .ensures .0) in
+    let size : length (l .sets) ≡ length (now (a .sets)) = l .inv .5 .size in
+    let n = sets-long cells (a .groups) in (
+      omega arith,
+      omega (arith, few c, l .inv .1),
+      omega (arith, l .inv .2, count-step cells (a .groups) (a .ranking) (s .pre .ranks) (l .k) (omega arith) (r .ensures) (g .ensures .0)),
+      ap length (g .ensures .1) ∙ tried-long _ _ _ _ ∙ l .inv .3,
+      sym (list-step cells (a .groups) (a .ranking) (s .pre .ranks) (l .k) (omega arith) (r .ensures) (g .ensures .0) (l .lines) (l .list) (g .last .0) (g .ensures .1)) ∙ l .inv .4,
+      put-piece (l .inv .5) (omega (arith, s .pre .places)) (setAt cells (l .k) ∷ []) (laterSets cells (a .groups) (l .k + 1)) (sets-step cells (a .groups) (l .k) (omega arith)) (omega arith)
+          (length-set (l .sets) (l .k) (g .result)) (set-placed (l .sets) (l .k) (g .result) (setAt cells (l .k)) set (omega (arith, s .pre .places))),
+    )
+
+same-length : tie.Need-same-length Inv-loop μ-loop
+same-length c = search needs
+
+same-length-2 : tie.Need-same-length-2 Inv-loop μ-loop
+same-length-2 c = search needs
+
+returns : tie.Need-returns Inv-loop μ-loop
+returns c =
+    let s = c .before .before .before .before .before in
+    let l = c .before .loop in
+    let a = s .args in
+    let cells = now (a .cells) in
+    let e : l .k ≡ a .groups = omega arith in
+    let none = later-end (a .groups) (a .ranking) (l .k) (omega arith) in
+    let count : l .lines ≡ length (entriesOf cells (a .groups) (a .ranking)) = sym (none-counted (shown cells) (l .lines) none) ∙ l .inv .2 in
+    let n = sets-long cells (a .groups) in
+    record {
+      lines = λ limits heads places figures h. count ∙ entries-ones (a .ranking) (s .pre .ranks) cells (a .groups) ∙ sym (lines-ones h limits cells figures);
+      count = count;
+      few = omega (arith, l .inv .1);
+      tierSets = put-end (l .inv .5) (omega (arith, s .pre .places)) (sets-end cells (a .groups) (l .k) (omega arith)) .1;
+      entries = none-tried (shown cells) (l .lines) (l .list) none ∙ l .inv .4;
+    }
+
+pub list-lines-spec : {M : Type 1} → statement M
+list-lines-spec =
+    tie.close
+    (tie.spec
+    Inv-loop
+    μ-loop
+    loop-holds
+    row-of-requires
+    list-group-requires
+    mul-sets
+    slice-write-sets
+    cast-lines
+    add-lines
+    add-k
+    loop-less
+    loop-again
+    same-length
+    same-length-2
+    returns)

@@ -1,0 +1,40 @@
+// The pass over the counterparties.
+use rows::COLUMNS;
+ghost use mathlib.Core.Path.{_≡_};
+ghost use Rattle.book.specs.Records.{C};
+ghost use Rattle.book.specs.Accepted.{Accepted};
+ghost use Rattle.parties.specs.Rows.{Ready, Filled};
+
+// Both numbers of each counterparty, its topmost parent and the row of its group, at its place; and the topmost parents in `heads`, by the
+// numbers of their groups. Gives how many groups there are; from that number on, what stands in `heads` says nothing.
+pub fn fill(
+    b: &[u8],
+    c: usize,
+    words: &mut [u64],
+    terms: &mut [u64],
+    tops: &mut [u16],
+    rows: &mut [u16],
+    heads: &mut [u16],
+) -> usize
+    requires { ⌜ (Accepted (now b)) × (c ≡ C (now b)) × (Ready c (now words) (now terms) (now tops) (now rows) (now heads)) ⌝ }
+    ensures { λ r. ⌜ Filled (now (b .entry)) c (now (words .entry)) (now (terms .entry)) (now (tops .entry)) (now (rows .entry)) (now (heads .entry)) (now (words .exit)) (now (terms .exit)) (now (tops .exit)) (now (rows .exit)) (now (heads .exit)) r ⌝ }
+{
+    let mut groups = 0;
+    let mut place = 1;
+    while place <= c {
+        let who = book::counterparty_at(b, place);
+        let up = who.parent as usize;
+        let above = groups::top_of(b, tops, place - 1, up);
+        let shared = rows[above as usize];
+        let fresh = (COLUMNS * groups) as u16;
+        let own = place as u16;
+        words[place] = columns::word_of(who);
+        terms[place] = columns::terms_of(who);
+        tops[place] = choice::short(up == 0, own, above);
+        rows[place] = choice::short(up == 0, fresh, shared);
+        heads[groups] = own;
+        groups += choice::one(up == 0) as usize;
+        place += 1;
+    }
+    groups
+}

@@ -1,0 +1,25 @@
+// A table of cells: a row of columns to each group.
+use cascade::TIERS;
+ghost use mathlib.Core.Path.{_≡_};
+ghost use Prim.Native.Nat.{_+_, _*_, _≤_};
+ghost use lib.ListN.{length};
+ghost use Rattle.rows.specs.Rows.{columns, row};
+
+// How many columns a row has: a tier each, and seven beside the tiers.
+pub const COLUMNS: usize = TIERS + 7;
+
+// The exposures of group number k by tier.
+pub fn row_of(cells: &[u64], k: usize) -> [u64; TIERS]
+    requires { ⌜ columns * (k + 1) ≤ length (now cells) ⌝ }
+    ensures { λ r. ⌜ r ≡ row (now (cells .entry)) k ⌝ }
+{
+    let start = COLUMNS * k;
+    let mut out = [0u64; TIERS];
+    let mut t = 0;
+    while t < TIERS {
+        let from = start + t;
+        out[t] = cells[from];
+        t += 1;
+    }
+    out
+}
