@@ -33,12 +33,6 @@ part-within c =
 add-total : tie.Need-add-total Inv-loop μ-loop
 add-total c = omega (arith, part-within c)
 
-add-k : tie.Need-add-k Inv-loop μ-loop
-add-k c = omega arith
-
-loop-less : tie.Need-loop-less Inv-loop μ-loop
-loop-less c = omega arith
-
 loop-again : tie.Need-loop-again Inv-loop μ-loop
 loop-again c =
     let s = c .before .before .before .before in
@@ -64,7 +58,7 @@ sum-spec =
     loop-holds
     part-requires
     add-total
-    add-k
-    loop-less
+    (λ c. omega arith)
+    (λ c. omega arith)
     loop-again
     returns)

@@ -6,9 +6,6 @@ use borrow.Author.Needs.{needs}
 use Rattle.admit.proofs.amounts_fit.Statement.{statement}
 use Rattle.admit.proofs.amounts_fit.Tie as tie
 
-header-at-requires : tie.Need-header-at-requires
-header-at-requires c κs = search needs
-
 returns : tie.Need-returns
 unfolding headerAt
 returns c =
@@ -17,4 +14,4 @@ returns c =
     rw (toZ-ofZ {w = w64} {z = h .result .base} (record { sfits = c .struct-told2 .given .1 .1 .1 .1 .0 .1 }), h .ensures)
 
 pub amounts-fit-spec : {M : Type 1} → statement M
-amounts-fit-spec = tie.close (tie.spec header-at-requires returns)
+amounts-fit-spec = tie.close (tie.spec (λ c κs. search needs) returns)

@@ -10,12 +10,6 @@ use Rattle.admit.proofs.check.Tie as tie
 returns : tie.Need-returns
 returns c = by-length _ (omega arith)
 
-header-check-requires : tie.Need-header-check-requires
-header-check-requires c κs = search needs
-
-enum-known-header : tie.Need-enum-known-header
-enum-known-header c = search needs
-
 enum-told : tie.Need-enum-told
 enum-told c = search needs
 
@@ -33,8 +27,8 @@ check-spec =
     tie.close
     (tie.spec
     returns
-    header-check-requires
-    enum-known-header
+    (λ c κs. search needs)
+    (λ c. search needs)
     enum-told
     records-check-requires
     returns-2

@@ -19,21 +19,9 @@ abbrev μ-loop : tie.MeasureT-loop
 loop-holds : tie.Need-loop-holds Inv-loop μ-loop
 loop-holds c = search-starts _ _ _
 
-add-place : tie.Need-add-place Inv-loop μ-loop
-add-place c = omega arith
-
-good-counterparty-requires : tie.Need-good-counterparty-requires Inv-loop μ-loop
-good-counterparty-requires c κs = omega arith
-
-cast-t7 : tie.Need-cast-t7 Inv-loop μ-loop
-cast-t7 c = omega arith
-
 returns : tie.Need-returns Inv-loop μ-loop
 unfolding counterpartiesCheck
 returns c = search-finds (c .before .before .before .loop .inv) (omega arith) (sym (c .before .good-counterparty .ensures) ∙ not-true _ (c .if1 .taken))
-
-loop-less : tie.Need-loop-less Inv-loop μ-loop
-loop-less c = omega arith
 
 loop-again : tie.Need-loop-again Inv-loop μ-loop
 loop-again c = search-on (c .before .before .before .loop .inv) (omega arith) (sym (c .before .good-counterparty .ensures) ∙ not-false _ (c .if1 .left))
@@ -49,10 +37,10 @@ counterparties-check-spec =
     Inv-loop
     μ-loop
     loop-holds
-    add-place
-    good-counterparty-requires
-    cast-t7
+    (λ c. omega arith)
+    (λ c κs. omega arith)
+    (λ c. omega arith)
     returns
-    loop-less
+    (λ c. omega arith)
     loop-again
     returns-2)

@@ -20,18 +20,6 @@ loop-holds c = adding-starts _
 asset-at-requires : tie.Need-asset-at-requires Inv-loop μ-loop
 asset-at-requires c κs = (c .before .before .before .pre .2, omega arith, omega arith, omega arith)
 
-cast-sum : tie.Need-cast-sum Inv-loop μ-loop
-cast-sum c = omega arith
-
-add-sum : tie.Need-add-sum Inv-loop μ-loop
-add-sum c = omega arith
-
-add-place : tie.Need-add-place Inv-loop μ-loop
-add-place c = omega arith
-
-loop-less : tie.Need-loop-less Inv-loop μ-loop
-loop-less c = omega arith
-
 loop-again : tie.Need-loop-again Inv-loop μ-loop
 loop-again c = adding-on (c .before .before .before .loop .inv) (omega arith) (ap (λ (a : Asset). a .count) (c .before .asset-at .ensures)) (omega arith)
 
@@ -46,9 +34,9 @@ counts-add-spec =
     μ-loop
     loop-holds
     asset-at-requires
-    cast-sum
-    add-sum
-    add-place
-    loop-less
+    (λ c. omega arith)
+    (λ c. omega arith)
+    (λ c. omega arith)
+    (λ c. omega arith)
     loop-again
     returns)

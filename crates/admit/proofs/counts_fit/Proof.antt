@@ -4,21 +4,6 @@ use borrow.Author.Needs.{needs}
 use Rattle.admit.proofs.counts_fit.Statement.{statement}
 use Rattle.admit.proofs.counts_fit.Tie as tie
 
-header-at-requires : tie.Need-header-at-requires
-header-at-requires c κs = search needs
-
-cast-result : tie.Need-cast-result
-cast-result c = search needs
-
-cast-result-2 : tie.Need-cast-result-2
-cast-result-2 c = search needs
-
-cast-result-3 : tie.Need-cast-result-3
-cast-result-3 c = search needs
-
-size-requires : tie.Need-size-requires
-size-requires c κs = search needs
-
 returns : tie.Need-returns
 unfolding headerAt
 returns c = rw (c .size .ensures, c .before .before .before .before .header-at .ensures)
@@ -26,4 +11,4 @@ returns c = rw (c .size .ensures, c .before .before .before .before .header-at .
 pub counts-fit-spec : {M : Type 1} → statement M
 counts-fit-spec =
     tie.close
-    (tie.spec header-at-requires cast-result cast-result-2 cast-result-3 size-requires returns)
+    (tie.spec (λ c κs. search needs) (λ c. search needs) (λ c. search needs) (λ c. search needs) (λ c κs. search needs) returns)

@@ -20,28 +20,16 @@ abbrev μ-loop : tie.MeasureT-loop
 loop-holds : tie.Need-loop-holds Inv-loop μ-loop
 loop-holds c = search-starts _ _ _
 
-add-place : tie.Need-add-place Inv-loop μ-loop
-add-place c = omega arith
-
 mitigant-at-requires : tie.Need-mitigant-at-requires Inv-loop μ-loop
 mitigant-at-requires c κs = (c .before .before .before .pre .3, omega arith, omega arith, omega arith)
-
-good-mitigant-requires : tie.Need-good-mitigant-requires Inv-loop μ-loop
-good-mitigant-requires c κs = omega arith
 
 tested : (c : tie.After-good-mitigant Inv-loop μ-loop)
     → c .good-mitigant .result ≡ goodMitigant (C (now (c .before .before .before .before .before .args .b))) (mitigantAt (now (c .before .before .before .before .before .args .b)) (c .before .before .before .loop .passed + 1))
 tested c = c .good-mitigant .ensures ∙ ap₂ goodMitigant (c .before .before .before .before .before .pre .1) (c .before .mitigant-at .ensures)
 
-cast-t10 : tie.Need-cast-t10 Inv-loop μ-loop
-cast-t10 c = omega arith
-
 returns : tie.Need-returns Inv-loop μ-loop
 unfolding mitigantsCheck
 returns c = search-finds (c .before .before .before .before .loop .inv) (omega arith) (sym (tested (c .before)) ∙ not-true _ (c .if1 .taken))
-
-loop-less : tie.Need-loop-less Inv-loop μ-loop
-loop-less c = omega arith
 
 loop-again : tie.Need-loop-again Inv-loop μ-loop
 loop-again c = search-on (c .before .before .before .before .loop .inv) (omega arith) (sym (tested (c .before)) ∙ not-false _ (c .if1 .left))
@@ -57,11 +45,11 @@ mitigants-check-spec =
     Inv-loop
     μ-loop
     loop-holds
-    add-place
+    (λ c. omega arith)
     mitigant-at-requires
-    good-mitigant-requires
-    cast-t10
+    (λ c κs. omega arith)
+    (λ c. omega arith)
     returns
-    loop-less
+    (λ c. omega arith)
     loop-again
     returns-2)

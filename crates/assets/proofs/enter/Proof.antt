@@ -7,41 +7,11 @@ use borrow.Author.Needs.{needs}
 use Rattle.assets.proofs.enter.Statement.{statement}
 use Rattle.assets.proofs.enter.Tie as tie
 
-is-reinsurance-requires : tie.Need-is-reinsurance-requires
-is-reinsurance-requires c κs = search needs
-
-stressed-of-requires : tie.Need-stressed-of-requires
-stressed-of-requires c κs = search needs
-
-share-of-requires : tie.Need-share-of-requires
-share-of-requires c κs = search needs
-
 with-treaty-requires : tie.Need-with-treaty-requires
 with-treaty-requires c κs =
     let s = c .before .before .before .before .before .before .before in
     let e : reinsurance (s .args .a) ≡ true = sym (c .before .before .before .is-reinsurance .ensures) ∙ c .before .before .if1 .taken in
     treaty-fits (s .pre) e (c .before .stressed-of .ensures) (c .share-of .ensures)
-
-treaty-column-requires : tie.Need-treaty-column-requires
-treaty-column-requires c κs = search needs
-
-add-cell : tie.Need-add-cell
-add-cell c = search needs
-
-half-of-requires : tie.Need-half-of-requires
-half-of-requires c κs = search needs
-
-settle-requires : tie.Need-settle-requires
-settle-requires c κs = search needs
-
-same-length : tie.Need-same-length
-same-length c = search needs
-
-same-length-2 : tie.Need-same-length-2
-same-length-2 c = search needs
-
-same-length-3 : tie.Need-same-length-3
-same-length-3 c = search needs
 
 returns : tie.Need-returns
 returns c =
@@ -52,32 +22,11 @@ returns c =
     let e : reinsurance (s .args .a) ≡ true = sym (h .before .before .before .is-reinsurance .ensures) ∙ h .before .before .if1 .taken in
     treaty-entered (s .args .word) (s .args .terms) (t .settle .ensures) e (h .before .stressed-of .ensures) (h .share-of .ensures) (t .before .before .before .before .before .treaty-column .ensures .0) (t .before .before .before .before .half-of .ensures .0) (k .with-treaty .ensures)
 
-share-of-requires-2 : tie.Need-share-of-requires-2
-share-of-requires-2 c κs = search needs
-
 with-other-requires : tie.Need-with-other-requires
 with-other-requires c κs =
     let s = c .before .before .before .before .before .before in
     let e : reinsurance (s .args .a) ≡ false = sym (c .before .before .is-reinsurance .ensures) ∙ c .before .if1 .left in
     other-fits (s .pre) e (c .share-of2 .ensures)
-
-kind-column-requires : tie.Need-kind-column-requires
-kind-column-requires c κs = search needs
-
-add-cell-2 : tie.Need-add-cell-2
-add-cell-2 c = search needs
-
-settle-requires-2 : tie.Need-settle-requires-2
-settle-requires-2 c κs = search needs
-
-same-length-4 : tie.Need-same-length-4
-same-length-4 c = search needs
-
-same-length-5 : tie.Need-same-length-5
-same-length-5 c = search needs
-
-same-length-6 : tie.Need-same-length-6
-same-length-6 c = search needs
 
 returns-2 : tie.Need-returns-2
 returns-2 c =
@@ -92,24 +41,24 @@ pub enter-spec : {M : Type 1} → statement M
 enter-spec =
     tie.close
     (tie.spec
-    is-reinsurance-requires
-    stressed-of-requires
-    share-of-requires
+    (λ c κs. search needs)
+    (λ c κs. search needs)
+    (λ c κs. search needs)
     with-treaty-requires
-    treaty-column-requires
-    add-cell
-    half-of-requires
-    settle-requires
-    same-length
-    same-length-2
-    same-length-3
+    (λ c κs. search needs)
+    (λ c. search needs)
+    (λ c κs. search needs)
+    (λ c κs. search needs)
+    (λ c. search needs)
+    (λ c. search needs)
+    (λ c. search needs)
     returns
-    share-of-requires-2
+    (λ c κs. search needs)
     with-other-requires
-    kind-column-requires
-    add-cell-2
-    settle-requires-2
-    same-length-4
-    same-length-5
-    same-length-6
+    (λ c κs. search needs)
+    (λ c. search needs)
+    (λ c κs. search needs)
+    (λ c. search needs)
+    (λ c. search needs)
+    (λ c. search needs)
     returns-2)

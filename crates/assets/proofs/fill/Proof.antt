@@ -26,23 +26,11 @@ here c = omega arith
 asset-at-requires : tie.Need-asset-at-requires Inv-loop μ-loop
 asset-at-requires c κs = let s = c .before .before .before .before .before .before .before .before .before .before in (s .pre .1, omega arith, omega (arith, s .pre .0 .assets), omega (arith, s .pre .0 .size))
 
-cast-who : tie.Need-cast-who Inv-loop μ-loop
-cast-who c = search needs
-
-mul-enter : tie.Need-mul-enter Inv-loop μ-loop
-mul-enter c = search needs
-
 shared-slice-read-enter : tie.Need-shared-slice-read-enter Inv-loop μ-loop
 shared-slice-read-enter c = let w = who-inside (c .before .before .before .before .loop .inv) (c .before .before .before .before .before .before .before .before .before .before .before .before .before .pre .0) (omega arith) (c .before .before .before .before .before .before .before .before .before .before .before .before .before .pre .3) (c .before .before .asset-at .ensures) in omega (arith, c .before .before .before .before .before .before .before .before .before .before .before .before .before .pre .3 .rows-size)
 
-mul-enter-2 : tie.Need-mul-enter-2 Inv-loop μ-loop
-mul-enter-2 c = search needs
-
 shared-slice-read-enter-2 : tie.Need-shared-slice-read-enter-2 Inv-loop μ-loop
 shared-slice-read-enter-2 c = let w = who-inside (c .before .before .before .before .before .loop .inv) (c .before .before .before .before .before .before .before .before .before .before .before .before .before .before .pre .0) (omega arith) (c .before .before .before .before .before .before .before .before .before .before .before .before .before .before .pre .3) (c .before .before .before .asset-at .ensures) in omega (arith, c .before .before .before .before .before .before .before .before .before .before .before .before .before .before .pre .3 .words-size)
-
-mul-enter-3 : tie.Need-mul-enter-3 Inv-loop μ-loop
-mul-enter-3 c = search needs
 
 shared-slice-read-enter-3 : tie.Need-shared-slice-read-enter-3 Inv-loop μ-loop
 shared-slice-read-enter-3 c = let w = who-inside (c .before .before .before .before .before .before .loop .inv) (c .before .before .before .before .before .before .before .before .before .before .before .before .before .before .before .pre .0) (omega arith) (c .before .before .before .before .before .before .before .before .before .before .before .before .before .before .before .pre .3) (c .before .before .before .before .asset-at .ensures) in omega (arith, c .before .before .before .before .before .before .before .before .before .before .before .before .before .before .before .pre .3 .terms-size)
@@ -61,17 +49,11 @@ mul-starts c = omega (arith, c .before .before .before .before .before .before .
 slice-write-starts : tie.Need-slice-write-starts Inv-loop μ-loop
 slice-write-starts c = omega (arith, c .before .before .before .before .before .before .before .before .before .before .before .before .before .before .before .before .before .loop .inv .starts-size, c .before .before .before .before .before .before .before .before .before .before .before .before .before .before .before .before .before .before .before .before .before .before .before .before .before .before .pre .4 .of-starts, first-inside (c .before .before .before .before .before .before .before .before .before .before .before .before .before .before .before .before .before .loop .inv) (c .before .before .before .before .before .before .before .before .before .before .before .before .before .before .before .before .before .before .before .before .before .before .before .before .before .before .pre .0) (here (c .before .before .before .before .before .before .before .before .before .before .before .before .before .before .before .before)))
 
-cast-first : tie.Need-cast-first Inv-loop μ-loop
-cast-first c = search needs
-
 add-first : tie.Need-add-first Inv-loop μ-loop
 add-first c = omega (arith, c .before .before .before .before .before .before .before .before .before .before .before .before .before .before .before .before .before .before .before .before .before .before .before .before .before .before .before .pre .0 .mitigants, first-inside (c .before .before .before .before .before .before .before .before .before .before .before .before .before .before .before .before .before .before .loop .inv) (c .before .before .before .before .before .before .before .before .before .before .before .before .before .before .before .before .before .before .before .before .before .before .before .before .before .before .before .pre .0) (here (c .before .before .before .before .before .before .before .before .before .before .before .before .before .before .before .before .before)), c .struct-known2 .given)
 
 add-place : tie.Need-add-place Inv-loop μ-loop
 add-place c = omega (arith, c .before .before .before .before .before .before .before .before .before .before .before .before .before .before .before .before .before .before .before .before .before .before .before .before .before .before .before .pre .0 .assets)
-
-loop-less : tie.Need-loop-less Inv-loop μ-loop
-loop-less c = omega arith
 
 loop-again : tie.Need-loop-again Inv-loop μ-loop
 loop-again c =
@@ -101,21 +83,21 @@ fill-spec =
     μ-loop
     loop-holds
     asset-at-requires
-    cast-who
-    mul-enter
+    (λ c. search needs)
+    (λ c. search needs)
     shared-slice-read-enter
-    mul-enter-2
+    (λ c. search needs)
     shared-slice-read-enter-2
-    mul-enter-3
+    (λ c. search needs)
     shared-slice-read-enter-3
     enter-requires
     mark-of-requires
     mul-starts
     slice-write-starts
-    cast-first
+    (λ c. search needs)
     add-first
     add-place
-    loop-less
+    (λ c. omega arith)
     loop-again
     same-length
     same-length-2

@@ -6,21 +6,6 @@ use borrow.Author.Needs.{needs}
 use Rattle.assets.proofs.share_of.Statement.{statement}
 use Rattle.assets.proofs.share_of.Tie as tie
 
-add-less : tie.Need-add-less
-add-less c = search needs
-
-less-requires : tie.Need-less-requires
-less-requires c κs = search needs
-
-is-linked-requires : tie.Need-is-linked-requires
-is-linked-requires c κs = search needs
-
-amount-requires : tie.Need-amount-requires
-amount-requires c κs = search needs
-
-amount-requires-2 : tie.Need-amount-requires-2
-amount-requires-2 c κs = search needs
-
 returns : tie.Need-returns
 returns c =
     let a = c .before .before .before .before .before .args .a in
@@ -31,4 +16,4 @@ returns c =
 pub share-of-spec : {M : Type 1} → statement M
 share-of-spec =
     tie.close
-    (tie.spec add-less less-requires is-linked-requires amount-requires amount-requires-2 returns)
+    (tie.spec (λ c. search needs) (λ c κs. search needs) (λ c κs. search needs) (λ c κs. search needs) (λ c κs. search needs) returns)

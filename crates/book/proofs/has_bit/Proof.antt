@@ -7,11 +7,8 @@ use borrow.Author.Needs.{needs}
 use Rattle.book.proofs.has_bit.Statement.{statement}
 use Rattle.book.proofs.has_bit.Tie as tie
 
-shr-result : tie.Need-shr-result
-shr-result c = search needs
-
 returns : tie.Need-returns
 returns c = ap (λ (k : ℕ). eqb k 1) (and-mask (c .args .b / 2 ^ c .args .n) 1)
 
 pub has-bit-spec : {M : Type 1} → statement M
-has-bit-spec = tie.close (tie.spec shr-result returns)
+has-bit-spec = tie.close (tie.spec (λ c. search needs) returns)

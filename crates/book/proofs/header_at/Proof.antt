@@ -6,24 +6,6 @@ use borrow.Author.Needs.{needs}
 use Rattle.book.proofs.header_at.Statement.{statement}
 use Rattle.book.proofs.header_at.Tie as tie
 
-u16-at-requires : tie.Need-u16-at-requires
-u16-at-requires c κs = search needs
-
-u16-at-requires-2 : tie.Need-u16-at-requires-2
-u16-at-requires-2 c κs = search needs
-
-u16-at-requires-3 : tie.Need-u16-at-requires-3
-u16-at-requires-3 c κs = search needs
-
-u64-at-requires : tie.Need-u64-at-requires
-u64-at-requires c κs = search needs
-
-i64-at-requires : tie.Need-i64-at-requires
-i64-at-requires c κs = search needs
-
-u64-at-requires-2 : tie.Need-u64-at-requires-2
-u64-at-requires-2 c κs = search needs
-
 returns : tie.Need-returns
 unfolding headerAt
 returns c =
@@ -34,10 +16,10 @@ pub header-at-spec : {M : Type 1} → statement M
 header-at-spec =
     tie.close
     (tie.spec
-    u16-at-requires
-    u16-at-requires-2
-    u16-at-requires-3
-    u64-at-requires
-    i64-at-requires
-    u64-at-requires-2
+    (λ c κs. search needs)
+    (λ c κs. search needs)
+    (λ c κs. search needs)
+    (λ c κs. search needs)
+    (λ c κs. search needs)
+    (λ c κs. search needs)
     returns)

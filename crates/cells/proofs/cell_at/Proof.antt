@@ -5,26 +5,8 @@ use borrow.Author.Needs.{needs}
 use Rattle.cells.proofs.cell_at.Statement.{statement}
 use Rattle.cells.proofs.cell_at.Tie as tie
 
-mitigant-at-requires : tie.Need-mitigant-at-requires
-mitigant-at-requires c κs = search needs
-
-cast-from : tie.Need-cast-from
-cast-from c = search needs
-
-cast-form : tie.Need-cast-form
-cast-form c = search needs
-
-mul-wide : tie.Need-mul-wide
-mul-wide c = search needs
-
 shared-slice-read-wide : tie.Need-shared-slice-read-wide
 shared-slice-read-wide c = let s = c .before .before .before .before .before .before .before in omega (arith, fits (s .pre .0) (s .pre .2) (s .pre .3) (c .before .before .before .mitigant-at .ensures) .high, s .pre .4 .rows-size)
-
-wide-requires : tie.Need-wide-requires
-wide-requires c κs = search needs
-
-mul-of-form : tie.Need-mul-of-form
-mul-of-form c = search needs
 
 shared-slice-read-of-form : tie.Need-shared-slice-read-of-form
 shared-slice-read-of-form c = let s = c .before .before .before .before .before .before .before .before .before in omega (arith, fits (s .pre .0) (s .pre .2) (s .pre .3) (c .before .before .before .before .before .mitigant-at .ensures) .high, s .pre .4 .words-size)
@@ -42,13 +24,13 @@ pub cell-at-spec : {M : Type 1} → statement M
 cell-at-spec =
     tie.close
     (tie.spec
-    mitigant-at-requires
-    cast-from
-    cast-form
-    mul-wide
+    (λ c κs. search needs)
+    (λ c. search needs)
+    (λ c. search needs)
+    (λ c. search needs)
     shared-slice-read-wide
-    wide-requires
-    mul-of-form
+    (λ c κs. search needs)
+    (λ c. search needs)
     shared-slice-read-of-form
     of-form-requires
     add-result

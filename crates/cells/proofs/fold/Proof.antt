@@ -14,26 +14,11 @@ abbrev μ-loop : tie.MeasureT-loop
 loop-holds : tie.Need-loop-holds Inv-loop μ-loop
 loop-holds c = folding-start _ _
 
-mul-at : tie.Need-mul-at Inv-loop μ-loop
-mul-at c = omega arith
-
-add-w : tie.Need-add-w Inv-loop μ-loop
-add-w c = omega arith
-
-mul-w : tie.Need-mul-w Inv-loop μ-loop
-mul-w c = omega arith
-
 slice-read-w : tie.Need-slice-read-w Inv-loop μ-loop
 slice-read-w c = let a = c .before .before in let s = a .before .before in omega (arith, fold-room (a .loop .inv) (s .pre) (omega arith))
 
 add-w-2 : tie.Need-add-w-2 Inv-loop μ-loop
 add-w-2 c = let a = c .before .before in let s = a .before .before in omega (arith, bills-fit (a .loop .inv) (s .pre) (omega arith))
-
-add-free : tie.Need-add-free Inv-loop μ-loop
-add-free c = omega arith
-
-mul-free : tie.Need-mul-free Inv-loop μ-loop
-mul-free c = omega arith
 
 slice-read-free : tie.Need-slice-read-free Inv-loop μ-loop
 slice-read-free c = let a = c .before .before .before in let s = a .before .before in omega (arith, fold-room (a .loop .inv) (s .pre) (omega arith))
@@ -43,12 +28,6 @@ add-free-2 c = let a = c .before .before .before in let s = a .before .before in
 
 fold-row-requires : tie.Need-fold-row-requires Inv-loop μ-loop
 fold-row-requires c κs = let a = c .before .before .before .before in let s = a .before .before in (fold-room (a .loop .inv) (s .pre) (omega arith), fold-fits (a .loop .inv) (s .pre) (omega arith))
-
-add-k : tie.Need-add-k Inv-loop μ-loop
-add-k c = omega arith
-
-loop-less : tie.Need-loop-less Inv-loop μ-loop
-loop-less c = omega arith
 
 loop-again : tie.Need-loop-again Inv-loop μ-loop
 loop-again c = let a = c .before .before .before .before .before .before .before in let s = a .before .before in folding-step (a .loop .inv) (s .pre) (omega arith) (c .before .before .fold-row .ensures)
@@ -66,18 +45,18 @@ fold-spec =
     Inv-loop
     μ-loop
     loop-holds
-    mul-at
-    add-w
-    mul-w
+    (λ c. omega arith)
+    (λ c. omega arith)
+    (λ c. omega arith)
     slice-read-w
     add-w-2
-    add-free
-    mul-free
+    (λ c. omega arith)
+    (λ c. omega arith)
     slice-read-free
     add-free-2
     fold-row-requires
-    add-k
-    loop-less
+    (λ c. omega arith)
+    (λ c. omega arith)
     loop-again
     same-length
     returns)

@@ -29,80 +29,29 @@ row5 c = let s = c .before .before .before .before .before .before .before .befo
 row6 : (c : tie.After-add6) → let s = c .before .before .before .before .before .before .before .before .before .before .before .before .before .before .before .before .before .before .before .before .before .before .before in Row (s .args .at) (now (s .args .cells)) (c .add6 .last .0) (onto 6 (a3Columns + 4) (onto 5 (a3Columns + 3) (onto 4 (a3Columns + 2) (onto 3 (a3Columns + 1) (onto 1 a3Columns (onto 11 billColumn (rowAt (now (s .args .cells)) (s .args .at))))))))
 row6 c = let s = c .before .before .before .before .before .before .before .before .before .before .before .before .before .before .before .before .before .before .before .before .before .before .before in row-step (row5 (c .before .before .before .before)) (s .pre .0) 6 (a3Columns + 4) (omega arith) (omega arith) refl (omega arith) (c .add6 .ensures)
 
-add-add : tie.Need-add-add
-add-add c = search needs
-
-add-add-2 : tie.Need-add-add-2
-add-add-2 c = search needs
-
 add-requires : tie.Need-add-requires
 unfolding folded apart columnBy a3Column
 add-requires c κs = let s = c .before .before in row-fits (row-start (s .args .at) (now (s .args .cells))) (s .pre .0) 11 billColumn (omega arith) (omega arith) refl refl (s .pre .1 11 (omega arith))
-
-add-add-3 : tie.Need-add-add-3
-add-add-3 c = search needs
-
-add-add-4 : tie.Need-add-add-4
-add-add-4 c = search needs
 
 add-requires-2 : tie.Need-add-requires-2
 unfolding folded apart columnBy a3Column
 add-requires-2 c κs = let s = c .before .before .before .before .before .before in row-fits (row1 (c .before .before .before)) (s .pre .0) 1 a3Columns (omega arith) (omega arith) refl refl (s .pre .1 1 (omega arith))
 
-add-add-5 : tie.Need-add-add-5
-add-add-5 c = search needs
-
-add-add-6 : tie.Need-add-add-6
-add-add-6 c = search needs
-
-add-add-7 : tie.Need-add-add-7
-add-add-7 c = search needs
-
 add-requires-3 : tie.Need-add-requires-3
 unfolding folded apart columnBy a3Column
 add-requires-3 c κs = let s = c .before .before .before .before .before .before .before .before .before .before in row-fits (row2 (c .before .before .before)) (s .pre .0) 3 (a3Columns + 1) (omega arith) (omega arith) refl (omega arith) (s .pre .1 3 (omega arith))
-
-add-add-8 : tie.Need-add-add-8
-add-add-8 c = search needs
-
-add-add-9 : tie.Need-add-add-9
-add-add-9 c = search needs
-
-add-add-10 : tie.Need-add-add-10
-add-add-10 c = search needs
 
 add-requires-4 : tie.Need-add-requires-4
 unfolding folded apart columnBy a3Column
 add-requires-4 c κs = let s = c .before .before .before .before .before .before .before .before .before .before .before .before .before .before in row-fits (row3 (c .before .before .before)) (s .pre .0) 4 (a3Columns + 2) (omega arith) (omega arith) refl (omega arith) (s .pre .1 4 (omega arith))
 
-add-add-11 : tie.Need-add-add-11
-add-add-11 c = search needs
-
-add-add-12 : tie.Need-add-add-12
-add-add-12 c = search needs
-
-add-add-13 : tie.Need-add-add-13
-add-add-13 c = search needs
-
 add-requires-5 : tie.Need-add-requires-5
 unfolding folded apart columnBy a3Column
 add-requires-5 c κs = let s = c .before .before .before .before .before .before .before .before .before .before .before .before .before .before .before .before .before .before in row-fits (row4 (c .before .before .before)) (s .pre .0) 5 (a3Columns + 3) (omega arith) (omega arith) refl (omega arith) (s .pre .1 5 (omega arith))
 
-add-add-14 : tie.Need-add-add-14
-add-add-14 c = search needs
-
-add-add-15 : tie.Need-add-add-15
-add-add-15 c = search needs
-
-add-add-16 : tie.Need-add-add-16
-add-add-16 c = search needs
-
 add-requires-6 : tie.Need-add-requires-6
 unfolding folded apart columnBy a3Column
 add-requires-6 c κs = let s = c .before .before .before .before .before .before .before .before .before .before .before .before .before .before .before .before .before .before .before .before .before .before in row-fits (row5 (c .before .before .before)) (s .pre .0) 6 (a3Columns + 4) (omega arith) (omega arith) refl (omega arith) (s .pre .1 6 (omega arith))
-
-same-length : tie.Need-same-length
-same-length c = search needs
 
 returns : tie.Need-returns
 returns c = folded-row (row6 (c .before .before))
@@ -111,27 +60,27 @@ pub fold-row-spec : {M : Type 1} → statement M
 fold-row-spec =
     tie.close
     (tie.spec
-    add-add
-    add-add-2
+    (λ c. search needs)
+    (λ c. search needs)
     add-requires
-    add-add-3
-    add-add-4
+    (λ c. search needs)
+    (λ c. search needs)
     add-requires-2
-    add-add-5
-    add-add-6
-    add-add-7
+    (λ c. search needs)
+    (λ c. search needs)
+    (λ c. search needs)
     add-requires-3
-    add-add-8
-    add-add-9
-    add-add-10
+    (λ c. search needs)
+    (λ c. search needs)
+    (λ c. search needs)
     add-requires-4
-    add-add-11
-    add-add-12
-    add-add-13
+    (λ c. search needs)
+    (λ c. search needs)
+    (λ c. search needs)
     add-requires-5
-    add-add-14
-    add-add-15
-    add-add-16
+    (λ c. search needs)
+    (λ c. search needs)
+    (λ c. search needs)
     add-requires-6
-    same-length
+    (λ c. search needs)
     returns)

@@ -14,12 +14,9 @@ post-rests-requires c κs = let s = c .before .before .before .before .before .b
 fold-requires : tie.Need-fold-requires
 fold-requires c κs = let s = c .before .before .before .before .before .before .before .before .before .before .before .before .before .before .before .before in fold-fits (s .pre .0) (s .pre .6) (s .pre .8) (c .before .before .before .before .before .before .before .post-parts .ensures) (c .before .before .before .post-rests .ensures) (s .pre .4)
 
-same-length : tie.Need-same-length
-same-length c = search needs
-
 returns : tie.Need-returns
 returns c = let s = c .before .before .before .before .before .before .before .before .before .before .before .before .before .before .before .before .before .before .before in posted (s .pre .0) (s .pre .6) (s .pre .8) (c .before .before .before .before .before .before .before .before .before .before .post-parts .ensures) (c .before .before .before .before .before .before .post-rests .ensures) (s .pre .4) (c .before .before .fold .ensures)
 
 pub post-spec : {M : Type 1} → statement M
 post-spec =
-    tie.close (tie.spec post-parts-requires post-rests-requires fold-requires same-length returns)
+    tie.close (tie.spec post-parts-requires post-rests-requires fold-requires (λ c. search needs) returns)

@@ -30,12 +30,6 @@ few d = let s = d .before .before .before .before .before .before .before .befor
 fit : (d : tie.After-cell-at Inv-loop μ-loop) → getD (d .before .before .loop .cells) (d .cell-at .result) 0 + getD (now (d .before .before .before .before .before .before .before .before .args .covered)) (d .before .before .loop .place) 0 < 2 ^ 64
 fit d = let s = d .before .before .before .before .before .before .before .before in part-room (d .before .before .loop .inv) (s .pre .0) (on d) (s .pre .5) (d .cell-at .ensures _) (s .pre .6)
 
-mul-cells : tie.Need-mul-cells Inv-loop μ-loop
-mul-cells c = search needs
-
-shared-slice-read-cells : tie.Need-shared-slice-read-cells Inv-loop μ-loop
-shared-slice-read-cells c = omega arith
-
 mul-cells-2 : tie.Need-mul-cells-2 Inv-loop μ-loop
 mul-cells-2 c = omega (arith, few (c .before))
 
@@ -47,12 +41,6 @@ add-cells c = omega (arith, fit (c .before .before))
 
 slice-write-cells : tie.Need-slice-write-cells Inv-loop μ-loop
 slice-write-cells c = let d = c .before .before in let s = d .before .before .before .before .before .before .before .before in part-small (d .before .before .loop .inv) (s .pre .0) (on d) (s .pre .5) (d .cell-at .ensures _)
-
-add-place : tie.Need-add-place Inv-loop μ-loop
-add-place c = omega arith
-
-loop-less : tie.Need-loop-less Inv-loop μ-loop
-loop-less c = omega arith
 
 loop-again : tie.Need-loop-again Inv-loop μ-loop
 loop-again c = let d = c .before .before in let s = d .before .before .before .before .before .before .before .before in part-step (d .before .before .loop .inv) (s .pre .0) (on d) (s .pre .5) (d .cell-at .ensures _)
@@ -71,14 +59,14 @@ post-parts-spec =
     μ-loop
     loop-holds
     cell-at-requires
-    mul-cells
-    shared-slice-read-cells
+    (λ c. search needs)
+    (λ c. omega arith)
     mul-cells-2
     slice-read-cells
     add-cells
     slice-write-cells
-    add-place
-    loop-less
+    (λ c. omega arith)
+    (λ c. omega arith)
     loop-again
     same-length
     returns)

@@ -21,15 +21,6 @@ abbrev μ-loop : tie.MeasureT-loop
 loop-holds : tie.Need-loop-holds Inv-loop μ-loop
 loop-holds c = rests-start _ _ _
 
-mul-wide : tie.Need-mul-wide Inv-loop μ-loop
-mul-wide c = search needs
-
-shared-slice-read-wide : tie.Need-shared-slice-read-wide Inv-loop μ-loop
-shared-slice-read-wide c = omega arith
-
-wide-requires : tie.Need-wide-requires Inv-loop μ-loop
-wide-requires c κs = search needs
-
 on : (d : tie.After-wide Inv-loop μ-loop) → d .before .before .before .loop .place ≤ N (now (d .before .before .before .before .before .before .before .before .args .b))
 on d = omega arith
 
@@ -42,12 +33,6 @@ few d = let s = d .before .before .before .before .before .before .before .befor
 fit : (d : tie.After-wide Inv-loop μ-loop) → getD (d .before .before .before .loop .cells) (d .wide .result) 0 + getD (now (d .before .before .before .before .before .before .before .before .args .rests)) (d .before .before .before .loop .place) 0 < 2 ^ 64
 fit d = let s = d .before .before .before .before .before .before .before .before in left-room (d .before .before .before .loop .inv) (s .pre .0) (on d) (s .pre .4) (is d) (s .pre .5)
 
-mul-cells : tie.Need-mul-cells Inv-loop μ-loop
-mul-cells c = search needs
-
-shared-slice-read-cells : tie.Need-shared-slice-read-cells Inv-loop μ-loop
-shared-slice-read-cells c = omega arith
-
 mul-cells-2 : tie.Need-mul-cells-2 Inv-loop μ-loop
 mul-cells-2 c = omega (arith, few (c .before))
 
@@ -59,12 +44,6 @@ add-cells c = omega (arith, fit (c .before .before))
 
 slice-write-cells : tie.Need-slice-write-cells Inv-loop μ-loop
 slice-write-cells c = let d = c .before .before in let s = d .before .before .before .before .before .before .before .before in left-small (d .before .before .before .loop .inv) (s .pre .0) (on d) (s .pre .4) (is d)
-
-add-place : tie.Need-add-place Inv-loop μ-loop
-add-place c = omega arith
-
-loop-less : tie.Need-loop-less Inv-loop μ-loop
-loop-less c = omega arith
 
 loop-again : tie.Need-loop-again Inv-loop μ-loop
 loop-again c = let d = c .before .before in let s = d .before .before .before .before .before .before .before .before in left-step (d .before .before .before .loop .inv) (s .pre .0) (on d) (s .pre .4) (is d)
@@ -82,17 +61,17 @@ post-rests-spec =
     Inv-loop
     μ-loop
     loop-holds
-    mul-wide
-    shared-slice-read-wide
-    wide-requires
-    mul-cells
-    shared-slice-read-cells
+    (λ c. search needs)
+    (λ c. omega arith)
+    (λ c κs. search needs)
+    (λ c. search needs)
+    (λ c. omega arith)
     mul-cells-2
     slice-read-cells
     add-cells
     slice-write-cells
-    add-place
-    loop-less
+    (λ c. omega arith)
+    (λ c. omega arith)
     loop-again
     same-length
     returns)

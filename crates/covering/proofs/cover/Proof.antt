@@ -20,9 +20,6 @@ loop-holds c =
     let s = c .before .before .before .before .before .before in
     running-start (now (s .args .b)) (now (s .args .starts)) (now (s .args .covered)) (now (s .args .caps)) (now (s .args .rests)) (s .pre .4)
 
-owner-at-requires : tie.Need-owner-at-requires Inv-loop μ-loop
-owner-at-requires c κs = search needs
-
 -- once the mitigant's owner is read: its place, and the asset's, are inside the tables
 record At (c : tie.After-owner-at Inv-loop μ-loop) : Type 0 where
   place : c .before .before .loop .place ≤ K (now (c .before .before .before .before .before .before .before .before .before .args .b))
@@ -77,18 +74,6 @@ sub-rests c = omega (arith, c .before .part-at .ensures .1, c .before .before .b
 slice-write-rests : tie.Need-slice-write-rests Inv-loop μ-loop
 slice-write-rests c = at (c .before .before .before) .rests
 
-mul-covered : tie.Need-mul-covered Inv-loop μ-loop
-mul-covered c = search needs
-
-slice-write-covered : tie.Need-slice-write-covered Inv-loop μ-loop
-slice-write-covered c = search needs
-
-add-place : tie.Need-add-place Inv-loop μ-loop
-add-place c = search needs
-
-loop-less : tie.Need-loop-less Inv-loop μ-loop
-loop-less c = search needs
-
 loop-again : tie.Need-loop-again Inv-loop μ-loop
 loop-again c =
     let s = c .before .before .before .before .before .before .before .before .before .before .before .before in
@@ -117,7 +102,7 @@ cover-spec =
     Inv-loop
     μ-loop
     loop-holds
-    owner-at-requires
+    (λ c κs. search needs)
     mul-still
     slice-read-still
     part-at-requires
@@ -128,10 +113,10 @@ cover-spec =
     slice-read-rests
     sub-rests
     slice-write-rests
-    mul-covered
-    slice-write-covered
-    add-place
-    loop-less
+    (λ c. search needs)
+    (λ c. search needs)
+    (λ c. search needs)
+    (λ c. search needs)
     loop-again
     same-length
     same-length-2

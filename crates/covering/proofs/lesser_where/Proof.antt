@@ -8,15 +8,6 @@ use borrow.Author.Needs.{needs}
 use Rattle.covering.proofs.lesser_where.Statement.{statement}
 use Rattle.covering.proofs.lesser_where.Tie as tie
 
-add-raised : tie.Need-add-raised
-add-raised c = search needs
-
-sub-raised : tie.Need-sub-raised
-sub-raised c = search needs
-
-amount-requires : tie.Need-amount-requires
-amount-requires c κs = search needs
-
 spare-read : (c : tie.After-amount) → c .amount .result ≡ spare (c .before .args .value) (c .before .args .still)
 spare-read c =
     let a = c .before .args in
@@ -27,9 +18,6 @@ sub-amount c =
     let a = c .before .args in
     rw (spare-read c) (spare-le (a .value) (a .still) (c .before .pre .0) (c .before .pre .1))
 
-amount-requires-2 : tie.Need-amount-requires-2
-amount-requires-2 c κs = search needs
-
 returns : tie.Need-returns
 returns c =
     let a = c .before .before .args in
@@ -39,4 +27,4 @@ returns c =
 
 pub lesser-where-spec : {M : Type 1} → statement M
 lesser-where-spec =
-    tie.close (tie.spec add-raised sub-raised amount-requires sub-amount amount-requires-2 returns)
+    tie.close (tie.spec (λ c. search needs) (λ c. search needs) (λ c κs. search needs) sub-amount (λ c κs. search needs) returns)

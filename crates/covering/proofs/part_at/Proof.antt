@@ -5,25 +5,10 @@ use borrow.Author.Needs.{needs}
 use Rattle.covering.proofs.part_at.Statement.{statement}
 use Rattle.covering.proofs.part_at.Tie as tie
 
-mitigant-at-requires : tie.Need-mitigant-at-requires
-mitigant-at-requires c κs = search needs
-
-cast-from : tie.Need-cast-from
-cast-from c = search needs
-
-mul-trust-in : tie.Need-mul-trust-in
-mul-trust-in c = search needs
-
 shared-slice-read-trust-in : tie.Need-shared-slice-read-trust-in
 shared-slice-read-trust-in c =
     let s = c .before .before .before .before .before in
     from-inside (s .pre .0) (s .pre .5) (s .pre .2) (s .pre .3) (c .before .before .mitigant-at .ensures)
-
-trust-in-requires : tie.Need-trust-in-requires
-trust-in-requires c κs = search needs
-
-cast-form : tie.Need-cast-form
-cast-form c = search needs
 
 counts-requires : tie.Need-counts-requires
 counts-requires c κs =
@@ -49,12 +34,12 @@ pub part-at-spec : {M : Type 1} → statement M
 part-at-spec =
     tie.close
     (tie.spec
-    mitigant-at-requires
-    cast-from
-    mul-trust-in
+    (λ c κs. search needs)
+    (λ c. search needs)
+    (λ c. search needs)
     shared-slice-read-trust-in
-    trust-in-requires
-    cast-form
+    (λ c κs. search needs)
+    (λ c. search needs)
     counts-requires
     lesser-where-requires
     returns)

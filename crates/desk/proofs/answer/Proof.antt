@@ -29,27 +29,6 @@ module _ (l : List ℕ) (n : ℕ) (e : n ≡ min (length l) 122) where
       by true h = let m : n ≡ 122 = omega (arith, leb-true 122 (length l) h) in ap (λ (k : ℕ). drop k l) m
       by false h = let m : length l < 122 = leb-false 122 (length l) h in drop-of-length-le l {i = n} (omega arith) ∙ sym (drop-of-length-le l {i = 122} (omega arith))
 
-schedule-end-requires : tie.Need-schedule-end-requires
-schedule-end-requires c κs = search needs
-
-slice-aggregate-report : tie.Need-slice-aggregate-report
-slice-aggregate-report c = search needs
-
-sub-report : tie.Need-sub-report
-sub-report c = search needs
-
-part-report-start : tie.Need-part-report-start
-part-report-start c = search needs
-
-part-report-end : tie.Need-part-report-end
-part-report-end c = search needs
-
-report-requires : tie.Need-report-requires
-report-requires c κs = search needs
-
-same-length : tie.Need-same-length
-same-length c = search needs
-
 returns : tie.Need-returns
 returns c =
     let p = c .before .before .report in
@@ -61,11 +40,11 @@ pub answer-spec : {M : Type 1} → statement M
 answer-spec =
     tie.close
     (tie.spec
-    schedule-end-requires
-    slice-aggregate-report
-    sub-report
-    part-report-start
-    part-report-end
-    report-requires
-    same-length
+    (λ c κs. search needs)
+    (λ c. search needs)
+    (λ c. search needs)
+    (λ c. search needs)
+    (λ c. search needs)
+    (λ c κs. search needs)
+    (λ c. search needs)
     returns)

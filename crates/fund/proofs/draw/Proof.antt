@@ -17,25 +17,10 @@ use Rattle.cells.proofs.post.Reads as post-reads
 use Rattle.covering.proofs.cover.Reads as cover-reads
 
 -- src/lib.rt:61:9
-header-at-requires : tie.Need-header-at-requires
-header-at-requires c κs = search needs
-
 -- src/lib.rt:62:13
-cast-n : tie.Need-cast-n
-cast-n c = search needs
-
 -- src/lib.rt:63:13
-cast-k : tie.Need-cast-k
-cast-k c = search needs
-
 -- src/lib.rt:64:9
-assets-start-requires : tie.Need-assets-start-requires
-assets-start-requires c κs = search needs
-
 -- src/lib.rt:65:9
-mitigants-start-requires : tie.Need-mitigants-start-requires
-mitigants-start-requires c κs = search needs
-
 -- src/lib.rt:66:9
 fill-requires : tie.Need-fill-requires
 fill-requires c κs =
@@ -62,29 +47,11 @@ post-requires c κs =
     (s .pre .0, mitigants-from B e (c .before .before .before .before .before .before .before .before .before .before .before .before .before .before .before .before .before .before .before .before .before .before .before .before .before .before .before .before .mitigants-start .ensures), header-counts B e .1, header-counts B e .2, s .pre .1, rowed (s .pre .2), pass-tabled (s .pre .3) (s .pre .0) v (c .before .before .before .before .before .before .before .before .before .before .cover .ensures), pass-placed (s .pre .3) (s .pre .0) v, s .pre .4)
 
 -- src/lib.rt:44:1
-same-length : tie.Need-same-length
-same-length c = search needs
-
 -- src/lib.rt:44:1
-same-length-2 : tie.Need-same-length-2
-same-length-2 c = search needs
-
 -- src/lib.rt:44:1
-same-length-3 : tie.Need-same-length-3
-same-length-3 c = search needs
-
 -- src/lib.rt:44:1
-same-length-4 : tie.Need-same-length-4
-same-length-4 c = search needs
-
 -- src/lib.rt:44:1
-same-length-5 : tie.Need-same-length-5
-same-length-5 c = search needs
-
 -- src/lib.rt:44:1
-same-length-6 : tie.Need-same-length-6
-same-length-6 c = search needs
-
 -- src/lib.rt:44:1
 returns : tie.Need-returns
 returns c =
@@ -98,18 +65,18 @@ pub draw-spec : {M : Type 1} → statement M
 draw-spec =
     tie.close
     (tie.spec
-    header-at-requires
-    cast-n
-    cast-k
-    assets-start-requires
-    mitigants-start-requires
+    (λ c κs. search needs)
+    (λ c. search needs)
+    (λ c. search needs)
+    (λ c κs. search needs)
+    (λ c κs. search needs)
     fill-requires
     cover-requires
     post-requires
-    same-length
-    same-length-2
-    same-length-3
-    same-length-4
-    same-length-5
-    same-length-6
+    (λ c. search needs)
+    (λ c. search needs)
+    (λ c. search needs)
+    (λ c. search needs)
+    (λ c. search needs)
+    (λ c. search needs)
     returns)

@@ -23,13 +23,7 @@ check-requires c κs =
     let s = c .before .before .before .before .before .before .before .before .before .before .before .before .before .before .before .before .before .before .before .before .before .before .before .before .before .before .before .before .before .before .before .before in (taken (s .pre .0), c .before .before .before .before .before .before .before .before .before .before .before .before .before .before .draw .ensures .1 .of-assets)
 
 -- src/lib.rt:160:22
-enum-known-found : tie.Need-enum-known-found
-enum-known-found c = search needs
-
 -- src/lib.rt:160:30
-refused-requires : tie.Need-refused-requires
-refused-requires c κs = search needs
-
 -- src/lib.rt:161:69
 enum-told : tie.Need-enum-told
 enum-told c = search needs
@@ -42,29 +36,11 @@ rate-requires c κs =
     (s .pre .0, sym (c .before .before .before .check .ensures) ∙ c .before .enum-told .given .1, s .pre .1, t .1, exposed (t .0) (s .pre .4))
 
 -- src/lib.rt:135:1
-same-length : tie.Need-same-length
-same-length c = search needs
-
 -- src/lib.rt:135:1
-same-length-2 : tie.Need-same-length-2
-same-length-2 c = search needs
-
 -- src/lib.rt:135:1
-same-length-3 : tie.Need-same-length-3
-same-length-3 c = search needs
-
 -- src/lib.rt:135:1
-same-length-4 : tie.Need-same-length-4
-same-length-4 c = search needs
-
 -- src/lib.rt:135:1
-same-length-5 : tie.Need-same-length-5
-same-length-5 c = search needs
-
 -- src/lib.rt:135:1
-same-length-6 : tie.Need-same-length-6
-same-length-6 c = search needs
-
 -- src/lib.rt:135:1
 returns : tie.Need-returns
 returns c =
@@ -73,29 +49,11 @@ returns c =
     (t .0, rw e (c .refused .ensures))
 
 -- src/lib.rt:135:1
-same-length-7 : tie.Need-same-length-7
-same-length-7 c = search needs
-
 -- src/lib.rt:135:1
-same-length-8 : tie.Need-same-length-8
-same-length-8 c = search needs
-
 -- src/lib.rt:135:1
-same-length-9 : tie.Need-same-length-9
-same-length-9 c = search needs
-
 -- src/lib.rt:135:1
-same-length-10 : tie.Need-same-length-10
-same-length-10 c = search needs
-
 -- src/lib.rt:135:1
-same-length-11 : tie.Need-same-length-11
-same-length-11 c = search needs
-
 -- src/lib.rt:135:1
-same-length-12 : tie.Need-same-length-12
-same-length-12 c = search needs
-
 -- src/lib.rt:135:1
 returns-2 : tie.Need-returns-2
 returns-2 c =
@@ -109,21 +67,21 @@ make-spec =
     (tie.spec
     draw-requires
     check-requires
-    enum-known-found
-    refused-requires
+    (λ c. search needs)
+    (λ c κs. search needs)
     enum-told
     rate-requires
-    same-length
-    same-length-2
-    same-length-3
-    same-length-4
-    same-length-5
-    same-length-6
+    (λ c. search needs)
+    (λ c. search needs)
+    (λ c. search needs)
+    (λ c. search needs)
+    (λ c. search needs)
+    (λ c. search needs)
     returns
-    same-length-7
-    same-length-8
-    same-length-9
-    same-length-10
-    same-length-11
-    same-length-12
+    (λ c. search needs)
+    (λ c. search needs)
+    (λ c. search needs)
+    (λ c. search needs)
+    (λ c. search needs)
+    (λ c. search needs)
     returns-2)

@@ -34,9 +34,6 @@ sum-requires c κs =
     (omega (arith, a .counterparties, s .pre .2), s .pre .4 .size, limit-most (s .pre .0) (s .pre .1) (c .before .before .before .limits-of .ensures .limits))
 
 -- src/lib.rt:110:18
-rank-requires : tie.Need-rank-requires
-rank-requires c κs = search needs
-
 -- src/lib.rt:93:1
 returns : tie.Need-returns
 returns c =
@@ -57,4 +54,4 @@ returns c =
     }
 
 pub rate-spec : {M : Type 1} → statement M
-rate-spec = tie.close (tie.spec limits-of-requires add-t10 sum-requires rank-requires returns)
+rate-spec = tie.close (tie.spec limits-of-requires add-t10 sum-requires (λ c κs. search needs) returns)

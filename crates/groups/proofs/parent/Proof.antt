@@ -5,12 +5,6 @@ use borrow.Author.Needs.{needs}
 use Rattle.groups.proofs.parent.Statement.{statement}
 use Rattle.groups.proofs.parent.Tie as tie
 
-counterparty-at-requires : tie.Need-counterparty-at-requires
-counterparty-at-requires c κs = search needs
-
-cast-result : tie.Need-cast-result
-cast-result c = search needs
-
 returns : tie.Need-returns
 returns c =
     let s = c .before .before .before in
@@ -19,4 +13,4 @@ returns c =
     (rw e (parent-stored (now (s .args .book)) (s .args .place) h), rw e h)
 
 pub parent-spec : {M : Type 1} → statement M
-parent-spec = tie.close (tie.spec counterparty-at-requires cast-result returns)
+parent-spec = tie.close (tie.spec (λ c κs. search needs) (λ c. search needs) returns)

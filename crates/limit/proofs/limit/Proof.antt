@@ -7,9 +7,6 @@ use borrow.Author.Needs.{needs}
 use Rattle.limit.proofs.limit.Statement.{statement}
 use Rattle.limit.proofs.limit.Tie as tie
 
-numerator-requires : tie.Need-numerator-requires
-numerator-requires c κs = search needs
-
 returns : tie.Need-returns
 unfolding limitOf
 returns c =
@@ -17,4 +14,4 @@ returns c =
     (cc, omega arith)
 
 pub limit-spec : {M : Type 1} → statement M
-limit-spec = tie.close (tie.spec numerator-requires returns)
+limit-spec = tie.close (tie.spec (λ c κs. search needs) returns)

@@ -29,12 +29,6 @@ loop-holds c =
     let s = c .before in
     (omega arith, omega arith, refl, refl, omega (arith, set-along (s .args .t5) (s .pre .2) (s .args .t4)))
 
-mul-t : tie.Need-mul-t Inv-loop μ-loop
-mul-t c = search needs
-
-array-read-t : tie.Need-array-read-t Inv-loop μ-loop
-array-read-t c = search needs
-
 mul-one : tie.Need-mul-one Inv-loop μ-loop
 mul-one c =
     let l = c .before .loop in
@@ -50,12 +44,6 @@ array-read-one c =
     let n : length (s .args .t5) ≡ tiers = search needs in
     let few = tier-few (s .args .t4) (s .args .t5) (s .args .k) (s .pre .2) (l .i) (omega arith) in
     omega arith
-
-one-requires : tie.Need-one-requires Inv-loop μ-loop
-one-requires c κs = search needs
-
-mul-list : tie.Need-mul-list Inv-loop μ-loop
-mul-list c = search needs
 
 add-list : tie.Need-add-list Inv-loop μ-loop
 add-list c =
@@ -73,15 +61,6 @@ cast-list c =
     let few = tier-few (s .args .t4) (s .args .t5) (s .args .k) (s .pre .2) (l .i) (omega arith) in
     record { fits = omega (arith, s .pre .0) }
 
-mul-list-2 : tie.Need-mul-list-2 Inv-loop μ-loop
-mul-list-2 c = search needs
-
-slice-write-list : tie.Need-slice-write-list Inv-loop μ-loop
-slice-write-list c = search needs
-
-add-place : tie.Need-add-place Inv-loop μ-loop
-add-place c = search needs
-
 shl-set : tie.Need-shl-set Inv-loop μ-loop
 shl-set c =
     let l = c .before .before .loop in
@@ -97,12 +76,6 @@ add-set c =
     let n : length (s .args .t5) ≡ tiers = search needs in
     let b = shifted (s .args .t4) (s .args .t5) (s .args .k) (s .pre .2) (l .i) (omega arith) (c .one .result) (c .one .ensures .0) in
     record { fits = omega (arith, b, l .inv .4, bits-step (s .args .t4) (s .args .t5) (s .args .k) (s .pre .2) (l .i) (omega arith), set-small (s .args .t4)) }
-
-add-i : tie.Need-add-i Inv-loop μ-loop
-add-i c = search needs
-
-loop-less : tie.Need-loop-less Inv-loop μ-loop
-loop-less c = search needs
 
 loop-again : tie.Need-loop-again Inv-loop μ-loop
 loop-again c =
@@ -120,9 +93,6 @@ loop-again c =
 cast-result : tie.Need-cast-result Inv-loop μ-loop
 cast-result c = record { fits = omega (arith, c .before .loop .inv .4, set-small (c .before .before .before .args .t4)) }
 
-same-length : tie.Need-same-length Inv-loop μ-loop
-same-length c = search needs
-
 returns : tie.Need-returns Inv-loop μ-loop
 returns c =
     let l = c .before .loop in
@@ -139,22 +109,22 @@ list-group-spec =
     Inv-loop
     μ-loop
     loop-holds
-    mul-t
-    array-read-t
+    (λ c. search needs)
+    (λ c. search needs)
     mul-one
     array-read-one
-    one-requires
-    mul-list
+    (λ c κs. search needs)
+    (λ c. search needs)
     add-list
     cast-list
-    mul-list-2
-    slice-write-list
-    add-place
+    (λ c. search needs)
+    (λ c. search needs)
+    (λ c. search needs)
     shl-set
     add-set
-    add-i
-    loop-less
+    (λ c. search needs)
+    (λ c. search needs)
     loop-again
     cast-result
-    same-length
+    (λ c. search needs)
     returns)

@@ -44,15 +44,6 @@ loop-holds c =
 row-of-requires : tie.Need-row-of-requires Inv-loop μ-loop
 row-of-requires c κs = omega (arith, c .before .before .before .before .before .pre .rows)
 
-list-group-requires : tie.Need-list-group-requires Inv-loop μ-loop
-list-group-requires c κs = search needs
-
-mul-sets : tie.Need-mul-sets Inv-loop μ-loop
-mul-sets c = search needs
-
-slice-write-sets : tie.Need-slice-write-sets Inv-loop μ-loop
-slice-write-sets c = search needs
-
 -- a group has a line to each tier at the most
 few : (c : tie.After-slice-known3 Inv-loop μ-loop) → ones (c .before .before .list-group .result) ≤ tiers
 few c = rw (c .before .before .list-group .ensures .0) (ones-small (c .before .before .before .before .row-of .result))
@@ -62,12 +53,6 @@ cast-lines c = record { fits = omega (arith, few c) }
 
 add-lines : tie.Need-add-lines Inv-loop μ-loop
 add-lines c = record { fits = omega (arith, few c, c .before .before .before .before .before .before .before .before .before .before .pre .few) }
-
-add-k : tie.Need-add-k Inv-loop μ-loop
-add-k c = search needs
-
-loop-less : tie.Need-loop-less Inv-loop μ-loop
-loop-less c = search needs
 
 loop-again : tie.Need-loop-again Inv-loop μ-loop
 loop-again c =
@@ -88,12 +73,6 @@ loop-again c =
       put-piece (l .inv .5) (omega (arith, s .pre .places)) (setAt cells (l .k) ∷ []) (laterSets cells (a .groups) (l .k + 1)) (sets-step cells (a .groups) (l .k) (omega arith)) (omega arith)
           (length-set (l .sets) (l .k) (g .result)) (set-placed (l .sets) (l .k) (g .result) (setAt cells (l .k)) set (omega (arith, s .pre .places))),
     )
-
-same-length : tie.Need-same-length Inv-loop μ-loop
-same-length c = search needs
-
-same-length-2 : tie.Need-same-length-2 Inv-loop μ-loop
-same-length-2 c = search needs
 
 returns : tie.Need-returns Inv-loop μ-loop
 returns c =
@@ -121,14 +100,14 @@ list-lines-spec =
     μ-loop
     loop-holds
     row-of-requires
-    list-group-requires
-    mul-sets
-    slice-write-sets
+    (λ c κs. search needs)
+    (λ c. search needs)
+    (λ c. search needs)
     cast-lines
     add-lines
-    add-k
-    loop-less
+    (λ c. search needs)
+    (λ c. search needs)
     loop-again
-    same-length
-    same-length-2
+    (λ c. search needs)
+    (λ c. search needs)
     returns)

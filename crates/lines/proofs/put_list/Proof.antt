@@ -88,9 +88,6 @@ shared-slice-read-entry c = omega (arith, start (c .before) .pre .long)
 cast-entry : tie.Need-cast-entry Inv-loop μ-loop
 cast-entry c = record { fits = omega (arith, c .shared-slice-known5 .given (at (c .before))) }
 
-amount-requires : tie.Need-amount-requires Inv-loop μ-loop
-amount-requires c κs = search needs
-
 mul-exposure : tie.Need-mul-exposure Inv-loop μ-loop
 mul-exposure c = let h = here (c .before .before) in record { fits = omega (arith, h .cell) }
 
@@ -146,9 +143,6 @@ add-excesses c =
 add-i : tie.Need-add-i Inv-loop μ-loop
 add-i c = record { fits = omega arith }
 
-loop-less : tie.Need-loop-less Inv-loop μ-loop
-loop-less c = omega arith
-
 loop-again : tie.Need-loop-again Inv-loop μ-loop
 loop-again c =
     let k = c .before .before .before .before .before .before .before in
@@ -195,7 +189,7 @@ put-list-spec =
     mul-entry
     shared-slice-read-entry
     cast-entry
-    amount-requires
+    (λ c κs. search needs)
     mul-exposure
     add-exposure
     mul-exposure-2
@@ -213,7 +207,7 @@ put-list-spec =
     put-line-requires
     add-excesses
     add-i
-    loop-less
+    (λ c. omega arith)
     loop-again
     same-length
     returns)

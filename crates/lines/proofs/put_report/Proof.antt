@@ -9,9 +9,6 @@ use Rattle.lines.proofs.put_report.Tie as tie
 put-list-requires : tie.Need-put-list-requires
 put-list-requires c κs = let r = c .before .before .before .before .before .before .pre in table-entries (r .table) _ (r .fits)
 
-less-requires : tie.Need-less-requires
-less-requires c κs = search needs
-
 cast-t14 : tie.Need-cast-t14
 cast-t14 c = record { fits = omega (arith, lines-few (c .before .before .before .before .before .before .before .before .before .before .pre .table)) }
 
@@ -19,12 +16,6 @@ add-t15 : tie.Need-add-t15
 add-t15 c =
     let r = c .before .before .before .before .before .before .before .before .before .before .pre in
     record { fits = omega (arith, c .before .before .before .put-list .ensures .0, c .less .ensures, r .a3, excess-few (r .table)) }
-
-put-head-requires : tie.Need-put-head-requires
-put-head-requires c κs = search needs
-
-same-length : tie.Need-same-length
-same-length c = search needs
 
 returns : tie.Need-returns
 returns c places groups h t =
@@ -38,9 +29,9 @@ put-report-spec =
     tie.close
     (tie.spec
     put-list-requires
-    less-requires
+    (λ c κs. search needs)
     cast-t14
     add-t15
-    put-head-requires
-    same-length
+    (λ c κs. search needs)
+    (λ c. search needs)
     returns)

@@ -7,23 +7,8 @@ use Rattle.report.proofs.report.Statement.{statement}
 use Rattle.report.proofs.report.Tie as tie
 use Rattle.schedule.proofs.check.Reads as check-reads′
 
-check-requires : tie.Need-check-requires
-check-requires c κs = search needs
-
-enum-known-rates : tie.Need-enum-known-rates
-enum-known-rates c = search needs
-
 enum-told : tie.Need-enum-told
 enum-told c = search needs
-
-check-requires-2 : tie.Need-check-requires-2
-check-requires-2 c κs = search needs
-
-enum-known-records : tie.Need-enum-known-records
-enum-known-records c = search needs
-
-enum-told-2 : tie.Need-enum-told-2
-enum-told-2 c = search needs
 
 accepted-requires : tie.Need-accepted-requires
 accepted-requires c κs =
@@ -39,24 +24,18 @@ returns-2 c =
     let s = c .before .before .before .before .before .before .before .before .before .before in
     bad-book (now (s .args .schedule)) (now (s .args .book)) (now (s .args .report)) (sym (c .before .before .before .before .before .before .check .ensures) ∙ c .before .before .before .before .enum-told .given .1) (sym (c .before .before .before .check2 .ensures) ∙ c .before .records .given .1)
 
-same-length : tie.Need-same-length
-same-length c = search needs
-
-returns-3 : tie.Need-returns-3
-returns-3 c = search needs
-
 pub report-spec : {M : Type 1} → statement M
 report-spec =
     tie.close
     (tie.spec
-    check-requires
-    enum-known-rates
+    (λ c κs. search needs)
+    (λ c. search needs)
     enum-told
-    check-requires-2
-    enum-known-records
-    enum-told-2
+    (λ c κs. search needs)
+    (λ c. search needs)
+    (λ c. search needs)
     accepted-requires
     returns
     returns-2
-    same-length
-    returns-3)
+    (λ c. search needs)
+    (λ c. search needs))

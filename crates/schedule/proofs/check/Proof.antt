@@ -10,12 +10,9 @@ returns : tie.Need-returns
 unfolding scheduleCheck
 returns c = simp (ne-eqb _ scheduleSize (c .if1 .taken))
 
-check-fields-requires : tie.Need-check-fields-requires
-check-fields-requires c κs = search needs
-
 returns-2 : tie.Need-returns-2
 unfolding scheduleCheck
 returns-2 c = simp (eq-eqb _ scheduleSize (c .before .if1 .left)) (c .check-fields .ensures)
 
 pub check-spec : {M : Type 1} → statement M
-check-spec = tie.close (tie.spec returns check-fields-requires returns-2)
+check-spec = tie.close (tie.spec returns (λ c κs. search needs) returns-2)

@@ -10,33 +10,6 @@ use borrow.Author.Needs.{needs}
 use Rattle.schedule.proofs.check_fields.Statement.{statement}
 use Rattle.schedule.proofs.check_fields.Tie as tie
 
-marked-requires : tie.Need-marked-requires
-marked-requires c κs = search needs
-
-unless-requires : tie.Need-unless-requires
-unless-requires c κs = search needs
-
-u16-at-requires : tie.Need-u16-at-requires
-u16-at-requires c κs = search needs
-
-unless-requires-2 : tie.Need-unless-requires-2
-unless-requires-2 c κs = search needs
-
-schedule-at-requires : tie.Need-schedule-at-requires
-schedule-at-requires c κs = search needs
-
-rates-fit-requires : tie.Need-rates-fit-requires
-rates-fit-requires c κs = search needs
-
-unless-requires-3 : tie.Need-unless-requires-3
-unless-requires-3 c κs = search needs
-
-and-then-requires : tie.Need-and-then-requires
-and-then-requires c κs = search needs
-
-and-then-requires-2 : tie.Need-and-then-requires-2
-and-then-requires-2 c κs = search needs
-
 returns : tie.Need-returns
 unfolding fieldsCheck
 returns c =
@@ -53,13 +26,13 @@ pub check-fields-spec : {M : Type 1} → statement M
 check-fields-spec =
     tie.close
     (tie.spec
-    marked-requires
-    unless-requires
-    u16-at-requires
-    unless-requires-2
-    schedule-at-requires
-    rates-fit-requires
-    unless-requires-3
-    and-then-requires
-    and-then-requires-2
+    (λ c κs. search needs)
+    (λ c κs. search needs)
+    (λ c κs. search needs)
+    (λ c κs. search needs)
+    (λ c κs. search needs)
+    (λ c κs. search needs)
+    (λ c κs. search needs)
+    (λ c κs. search needs)
+    (λ c κs. search needs)
     returns)

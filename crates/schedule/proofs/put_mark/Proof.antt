@@ -7,20 +7,11 @@ use borrow.Author.Needs.{needs}
 use Rattle.schedule.proofs.put_mark.Statement.{statement}
 use Rattle.schedule.proofs.put_mark.Tie as tie
 
-slice-write-d : tie.Need-slice-write-d
-slice-write-d c = search needs
-
 slice-write-d-2 : tie.Need-slice-write-d-2
 slice-write-d-2 c = simp length-set (omega arith)
 
 slice-write-d-3 : tie.Need-slice-write-d-3
 slice-write-d-3 c = simp length-set (omega arith)
-
-slice-write-d-4 : tie.Need-slice-write-d-4
-slice-write-d-4 c = search needs
-
-same-length : tie.Need-same-length
-same-length c = search needs
 
 returns : tie.Need-returns
 returns c = sets-eq mark (c .args .d .now) 0 (c .pre)
@@ -28,4 +19,4 @@ returns c = sets-eq mark (c .args .d .now) 0 (c .pre)
 pub put-mark-spec : {M : Type 1} → statement M
 put-mark-spec =
     tie.close
-    (tie.spec slice-write-d slice-write-d-2 slice-write-d-3 slice-write-d-4 same-length returns)
+    (tie.spec (λ c. search needs) slice-write-d-2 slice-write-d-3 (λ c. search needs) (λ c. search needs) returns)

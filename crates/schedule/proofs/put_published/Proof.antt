@@ -8,15 +8,6 @@ use borrow.Author.Needs.{needs}
 use Rattle.schedule.proofs.put_published.Statement.{statement}
 use Rattle.schedule.proofs.put_published.Tie as tie
 
-put-head-requires : tie.Need-put-head-requires
-put-head-requires c κs = search needs
-
-put-rows-requires : tie.Need-put-rows-requires
-put-rows-requires c κs = search needs
-
-same-length : tie.Need-same-length
-same-length c = search needs
-
 returns : tie.Need-returns
 unfolding scheduleBytes headBytes rowBytes eachOf
 returns c =
@@ -26,4 +17,4 @@ returns c =
     then-placed (s .args .d .now) (headBytes published) (eachOf rowBytes (rowsOf published)) 0 headSize (c1 .put-head .ensures) (c2 .put-rows .ensures) refl (omega (arith, s .pre))
 
 pub put-published-spec : {M : Type 1} → statement M
-put-published-spec = tie.close (tie.spec put-head-requires put-rows-requires same-length returns)
+put-published-spec = tie.close (tie.spec (λ c κs. search needs) (λ c κs. search needs) (λ c. search needs) returns)

@@ -9,39 +9,6 @@ use borrow.Author.Needs.{needs}
 use Rattle.schedule.proofs.put_row.Statement.{statement}
 use Rattle.schedule.proofs.put_row.Tie as tie
 
-cast-put-u16 : tie.Need-cast-put-u16
-cast-put-u16 c = search needs
-
-put-u16-requires : tie.Need-put-u16-requires
-put-u16-requires c κs = search needs
-
-add-put-u16 : tie.Need-add-put-u16
-add-put-u16 c = search needs
-
-cast-put-u16-2 : tie.Need-cast-put-u16-2
-cast-put-u16-2 c = search needs
-
-put-u16-requires-2 : tie.Need-put-u16-requires-2
-put-u16-requires-2 c κs = search needs
-
-add-put-u16-2 : tie.Need-add-put-u16-2
-add-put-u16-2 c = search needs
-
-cast-put-u16-3 : tie.Need-cast-put-u16-3
-cast-put-u16-3 c = search needs
-
-put-u16-requires-3 : tie.Need-put-u16-requires-3
-put-u16-requires-3 c κs = search needs
-
-add-put-u64 : tie.Need-add-put-u64
-add-put-u64 c = search needs
-
-put-u64-requires : tie.Need-put-u64-requires
-put-u64-requires c κs = search needs
-
-same-length : tie.Need-same-length
-same-length c = search needs
-
 returns : tie.Need-returns
 unfolding rowBytes
 returns c =
@@ -61,15 +28,15 @@ pub put-row-spec : {M : Type 1} → statement M
 put-row-spec =
     tie.close
     (tie.spec
-    cast-put-u16
-    put-u16-requires
-    add-put-u16
-    cast-put-u16-2
-    put-u16-requires-2
-    add-put-u16-2
-    cast-put-u16-3
-    put-u16-requires-3
-    add-put-u64
-    put-u64-requires
-    same-length
+    (λ c. search needs)
+    (λ c κs. search needs)
+    (λ c. search needs)
+    (λ c. search needs)
+    (λ c κs. search needs)
+    (λ c. search needs)
+    (λ c. search needs)
+    (λ c κs. search needs)
+    (λ c. search needs)
+    (λ c κs. search needs)
+    (λ c. search needs)
     returns)

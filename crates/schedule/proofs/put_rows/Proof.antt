@@ -54,26 +54,8 @@ loop-holds : tie.Need-loop-holds Inv-loop μ-loop
 unfolding eachOf
 loop-holds c = (omega arith, refl, sets-eq [] (c .before .args .d .now) headSize (omega arith))
 
-mul-put-row : tie.Need-mul-put-row Inv-loop μ-loop
-mul-put-row c = omega arith
-
-add-put-row : tie.Need-add-put-row Inv-loop μ-loop
-add-put-row c = omega arith
-
-mul-put-row-2 : tie.Need-mul-put-row-2 Inv-loop μ-loop
-mul-put-row-2 c = omega arith
-
-array-copy-out-put-row : tie.Need-array-copy-out-put-row Inv-loop μ-loop
-array-copy-out-put-row c = omega arith
-
 put-row-requires : tie.Need-put-row-requires Inv-loop μ-loop
 put-row-requires c κs = (rows-fit (c .before .before .before .loop .n), omega arith)
-
-add-n : tie.Need-add-n Inv-loop μ-loop
-add-n c = omega arith
-
-loop-less : tie.Need-loop-less Inv-loop μ-loop
-loop-less c = omega arith
 
 loop-again : tie.Need-loop-again Inv-loop μ-loop
 loop-again c =
@@ -81,9 +63,6 @@ loop-again c =
     let l = r .before .before .before .before in
     let s = l .before .before in
     (omega arith, omega arith, row-placed (s .args .d .now) (l .loop .d) (r .put-row .last .0) (l .loop .n) (omega arith) (s .pre) (l .loop .inv .2) (r .put-row .ensures))
-
-same-length : tie.Need-same-length Inv-loop μ-loop
-same-length c = omega arith
 
 returns : tie.Need-returns Inv-loop μ-loop
 returns c =
@@ -98,13 +77,13 @@ put-rows-spec =
     Inv-loop
     μ-loop
     loop-holds
-    mul-put-row
-    add-put-row
-    mul-put-row-2
-    array-copy-out-put-row
+    (λ c. omega arith)
+    (λ c. omega arith)
+    (λ c. omega arith)
+    (λ c. omega arith)
     put-row-requires
-    add-n
-    loop-less
+    (λ c. omega arith)
+    (λ c. omega arith)
     loop-again
-    same-length
+    (λ c. omega arith)
     returns)

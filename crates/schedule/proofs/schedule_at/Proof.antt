@@ -5,33 +5,6 @@ use borrow.Author.Needs.{needs}
 use Rattle.schedule.proofs.schedule_at.Statement.{statement}
 use Rattle.schedule.proofs.schedule_at.Tie as tie
 
-rate-at-requires : tie.Need-rate-at-requires
-rate-at-requires c κs = search needs
-
-rate-at-requires-2 : tie.Need-rate-at-requires-2
-rate-at-requires-2 c κs = search needs
-
-row-at-requires : tie.Need-row-at-requires
-row-at-requires c κs = search needs
-
-row-at-requires-2 : tie.Need-row-at-requires-2
-row-at-requires-2 c κs = search needs
-
-row-at-requires-3 : tie.Need-row-at-requires-3
-row-at-requires-3 c κs = search needs
-
-row-at-requires-4 : tie.Need-row-at-requires-4
-row-at-requires-4 c κs = search needs
-
-row-at-requires-5 : tie.Need-row-at-requires-5
-row-at-requires-5 c κs = search needs
-
-row-at-requires-6 : tie.Need-row-at-requires-6
-row-at-requires-6 c κs = search needs
-
-row-at-requires-7 : tie.Need-row-at-requires-7
-row-at-requires-7 c κs = search needs
-
 row-at-requires-8 : tie.Need-row-at-requires-8
 row-at-requires-8 c κs = (omega arith, c .before .before .before .before .before .before .before .before .before .before .pre)
 
@@ -53,14 +26,14 @@ pub schedule-at-spec : {M : Type 1} → statement M
 schedule-at-spec =
     tie.close
     (tie.spec
-    rate-at-requires
-    rate-at-requires-2
-    row-at-requires
-    row-at-requires-2
-    row-at-requires-3
-    row-at-requires-4
-    row-at-requires-5
-    row-at-requires-6
-    row-at-requires-7
+    (λ c κs. search needs)
+    (λ c κs. search needs)
+    (λ c κs. search needs)
+    (λ c κs. search needs)
+    (λ c κs. search needs)
+    (λ c κs. search needs)
+    (λ c κs. search needs)
+    (λ c κs. search needs)
+    (λ c κs. search needs)
     row-at-requires-8
     returns)

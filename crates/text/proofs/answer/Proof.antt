@@ -16,31 +16,10 @@ counts n l h = (h, sym (length-take-le n l h))
 enum-told : tie.Need-enum-told
 enum-told c = search needs
 
-put-report-requires : tie.Need-put-report-requires
-put-report-requires c κs = search needs
-
-enum-known-answer : tie.Need-enum-known-answer
-enum-known-answer c = search needs
-
-number-requires : tie.Need-number-requires
-number-requires c κs = search needs
-
-place-requires : tie.Need-place-requires
-place-requires c κs = search needs
-
-put-refusal-requires : tie.Need-put-refusal-requires
-put-refusal-requires c κs = search needs
-
-same-length : tie.Need-same-length
-same-length c = search needs
-
 returns : tie.Need-returns
 returns c =
     let p = c .before .before in
     (rw (p .before .before .enum-told .given .1) (p .put-report .ensures .0), counts (p .put-report .result) (p .put-report .last .0) (p .put-report .ensures .1))
-
-same-length-2 : tie.Need-same-length-2
-same-length-2 c = search needs
 
 returns-2 : tie.Need-returns-2
 returns-2 c =
@@ -54,12 +33,12 @@ answer-spec =
     tie.close
     (tie.spec
     enum-told
-    put-report-requires
-    enum-known-answer
-    number-requires
-    place-requires
-    put-refusal-requires
-    same-length
+    (λ c κs. search needs)
+    (λ c. search needs)
+    (λ c κs. search needs)
+    (λ c κs. search needs)
+    (λ c κs. search needs)
+    (λ c. search needs)
     returns
-    same-length-2
+    (λ c. search needs)
     returns-2)

@@ -6,18 +6,6 @@ use Rattle.text.proofs.Laws.{then-number}
 use Rattle.text.proofs.put_charge.Statement.{statement}
 use Rattle.text.proofs.put_charge.Tie as tie
 
-slice-aggregate-put : tie.Need-slice-aggregate-put
-slice-aggregate-put c = search needs
-
-put-requires : tie.Need-put-requires
-put-requires c κs = search needs
-
-put-number-requires : tie.Need-put-number-requires
-put-number-requires c κs = search needs
-
-same-length : tie.Need-same-length
-same-length c = search needs
-
 returns : tie.Need-returns
 unfolding chargeText
 returns c =
@@ -31,4 +19,4 @@ returns c =
 
 pub put-charge-spec : {M : Type 1} → statement M
 put-charge-spec =
-    tie.close (tie.spec slice-aggregate-put put-requires put-number-requires same-length returns)
+    tie.close (tie.spec (λ c. search needs) (λ c κs. search needs) (λ c κs. search needs) (λ c. search needs) returns)

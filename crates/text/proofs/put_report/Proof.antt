@@ -19,27 +19,12 @@ Inv-loop out₀ report lines at₀ i₀ out at i =
 abbrev μ-loop : tie.MeasureT-loop
 μ-loop out₀ report lines at₀ i₀ out at i = lines - i
 
-lines-in-requires : tie.Need-lines-in-requires Inv-loop μ-loop
-lines-in-requires c κs = search needs
-
 loop-holds : tie.Need-loop-holds Inv-loop μ-loop
 unfolding linesText
 loop-holds c = (omega arith, c .lines-in .ensures, omega arith, record { bytes = refl; place = refl }, refl)
 
-mul-put-line-at : tie.Need-mul-put-line-at Inv-loop μ-loop
-mul-put-line-at c = omega arith
-
-add-put-line-at : tie.Need-add-put-line-at Inv-loop μ-loop
-add-put-line-at c = omega arith
-
 put-line-at-requires : tie.Need-put-line-at-requires Inv-loop μ-loop
 put-line-at-requires c κs = (omega arith, omega arith)
-
-add-i : tie.Need-add-i Inv-loop μ-loop
-add-i c = omega arith
-
-loop-less : tie.Need-loop-less Inv-loop μ-loop
-loop-less c = omega arith
 
 loop-again : tie.Need-loop-again Inv-loop μ-loop
 unfolding linesText
@@ -54,15 +39,6 @@ loop-again c =
       rw add-one (then-written (linesText report i) (lineAt report (72 + 40 * i)) (l .loop .inv .3) (p .ensures .0) (omega arith)),
       omega arith,
     )
-
-u64-at-requires : tie.Need-u64-at-requires Inv-loop μ-loop
-u64-at-requires c κs = omega arith
-
-put-charge-requires : tie.Need-put-charge-requires Inv-loop μ-loop
-put-charge-requires c κs = omega arith
-
-same-length : tie.Need-same-length Inv-loop μ-loop
-same-length c = omega arith
 
 returns : tie.Need-returns Inv-loop μ-loop
 unfolding reportText
@@ -82,15 +58,15 @@ put-report-spec =
     (tie.spec
     Inv-loop
     μ-loop
-    lines-in-requires
+    (λ c κs. search needs)
     loop-holds
-    mul-put-line-at
-    add-put-line-at
+    (λ c. omega arith)
+    (λ c. omega arith)
     put-line-at-requires
-    add-i
-    loop-less
+    (λ c. omega arith)
+    (λ c. omega arith)
     loop-again
-    u64-at-requires
-    put-charge-requires
-    same-length
+    (λ c κs. omega arith)
+    (λ c κs. omega arith)
+    (λ c. omega arith)
     returns)

@@ -11,12 +11,6 @@ use borrow.Author.Needs.{needs}
 use Rattle.values.proofs.before_excluded.Statement.{statement}
 use Rattle.values.proofs.before_excluded.Tie as tie
 
-header-at-requires : tie.Need-header-at-requires
-header-at-requires c κs = search needs
-
-less-requires : tie.Need-less-requires
-less-requires c κs = search needs
-
 add-result : tie.Need-add-result
 unfolding headerAt
 add-result c =
@@ -29,4 +23,4 @@ unfolding beforeExcluded bookOf headerAt
 returns c = cc (ap (λ (h : Header). h .total) (c .before .before .header-at .ensures))
 
 pub before-excluded-spec : {M : Type 1} → statement M
-before-excluded-spec = tie.close (tie.spec header-at-requires less-requires add-result returns)
+before-excluded-spec = tie.close (tie.spec (λ c κs. search needs) (λ c κs. search needs) add-result returns)

@@ -8,15 +8,9 @@ use borrow.Author.Needs.{needs}
 use Rattle.values.proofs.vaf.Statement.{statement}
 use Rattle.values.proofs.vaf.Tie as tie
 
-header-at-requires : tie.Need-header-at-requires
-header-at-requires c κs = search needs
-
-less-requires : tie.Need-less-requires
-less-requires c κs = search needs
-
 returns : tie.Need-returns
 unfolding VAF bookOf headerAt
 returns c = cc (ap (λ (h : Header). h .total) (c .before .header-at .ensures))
 
 pub vaf-spec : {M : Type 1} → statement M
-vaf-spec = tie.close (tie.spec header-at-requires less-requires returns)
+vaf-spec = tie.close (tie.spec (λ c κs. search needs) (λ c κs. search needs) returns)

@@ -8,15 +8,9 @@ use Rattle.weightrose.proofs.weightrose_published.Tie as tie
 returns : tie.Need-returns
 returns c = too-short _ (c .if1 .taken)
 
-put-published-requires : tie.Need-put-published-requires
-put-published-requires c κs = search needs
-
-same-length : tie.Need-same-length
-same-length c = search needs
-
 returns-2 : tie.Need-returns-2
 returns-2 c = put (now (c .before .before .before .before .before .before .args .schedule)) _ (c .before .before .before .before .if1 .left) (c .before .before .put-published .ensures)
 
 pub weightrose-published-spec : {M : Type 1} → statement M
 weightrose-published-spec =
-    tie.close (tie.spec returns put-published-requires same-length returns-2)
+    tie.close (tie.spec returns (λ c κs. search needs) (λ c. search needs) returns-2)

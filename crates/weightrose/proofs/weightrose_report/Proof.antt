@@ -4,17 +4,8 @@ use borrow.Author.Needs.{needs}
 use Rattle.weightrose.proofs.weightrose_report.Statement.{statement}
 use Rattle.weightrose.proofs.weightrose_report.Tie as tie
 
-report-requires : tie.Need-report-requires
-report-requires c κs = search needs
-
-pack-requires : tie.Need-pack-requires
-pack-requires c κs = search needs
-
-same-length : tie.Need-same-length
-same-length c = search needs
-
 returns : tie.Need-returns
 returns c = reported _ _ _ _ (c .before .before .before .report .result) (c .pack .result) (c .before .before .before .report .ensures) (c .pack .ensures)
 
 pub weightrose-report-spec : {M : Type 1} → statement M
-weightrose-report-spec = tie.close (tie.spec report-requires pack-requires same-length returns)
+weightrose-report-spec = tie.close (tie.spec (λ c κs. search needs) (λ c κs. search needs) (λ c. search needs) returns)

@@ -7,27 +7,12 @@ use Rattle.wire.specs.Bytes.{bytes16}
 use Rattle.wire.proofs.put_u16.Statement.{statement}
 use Rattle.wire.proofs.put_u16.Tie as tie
 
-cast-d : tie.Need-cast-d
-cast-d c = search needs
-
-slice-write-d : tie.Need-slice-write-d
-slice-write-d c = search needs
-
-cast-d-2 : tie.Need-cast-d-2
-cast-d-2 c = search needs
-
-add-d : tie.Need-add-d
-add-d c = search needs
-
 slice-write-d-2 : tie.Need-slice-write-d-2
 slice-write-d-2 c = simp length-set (omega arith)
-
-same-length : tie.Need-same-length
-same-length c = search needs
 
 returns : tie.Need-returns
 returns c = stored (bytes16 (c .args .v)) (c .args .d .now) (c .args .at) (c .pre)
 
 pub put-u16-spec : {M : Type 1} → statement M
 put-u16-spec =
-    tie.close (tie.spec cast-d slice-write-d cast-d-2 add-d slice-write-d-2 same-length returns)
+    tie.close (tie.spec (λ c. search needs) (λ c. search needs) (λ c. search needs) (λ c. search needs) slice-write-d-2 (λ c. search needs) returns)

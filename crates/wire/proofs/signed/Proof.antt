@@ -24,15 +24,6 @@ other u h = ap (λ (z : ℤ). negsuc 0 -ℤ z) (toZ-pos w64 {n = 184467440737095
 fits : (u : ℕ) → 9223372036854775808 ≤ u → SFits w64 (negsuc 0 -ℤ toZ w64 (18446744073709551615 - u))
 fits u h = subst (SFits w64) (sym (other u h)) (record { sfits = omega arith })
 
-sub-m : tie.Need-sub-m
-sub-m c = search needs
-
-cast-m : tie.Need-cast-m
-cast-m c = search needs
-
-cast-result : tie.Need-cast-result
-cast-result c = search needs
-
 sub-result : tie.Need-sub-result
 sub-result c = fits (c .before .args .u) (c .if1 .left)
 
@@ -45,4 +36,4 @@ returns-2 c =
     toZ-ofZ {w = w64} (fits u (c .if1 .left)) ∙ other u (c .if1 .left) ∙ sym (ap (λ t. if t then pos u else negsuc (18446744073709551615 - u)) (le-ltb u 9223372036854775808 (c .if1 .left)))
 
 pub signed-spec : {M : Type 1} → statement M
-signed-spec = tie.close (tie.spec cast-result sub-m cast-m sub-result returns returns-2)
+signed-spec = tie.close (tie.spec (λ c. search needs) (λ c. search needs) (λ c. search needs) sub-result returns returns-2)

@@ -4,12 +4,9 @@ use borrow.Author.Needs.{needs}
 use Rattle.wire.proofs.u16_at.Statement.{statement}
 use Rattle.wire.proofs.u16_at.Tie as tie
 
-sum16-at-requires : tie.Need-sum16-at-requires
-sum16-at-requires c κs = search needs
-
 returns : tie.Need-returns
 unfolding u16At
 returns c = search needs
 
 pub u16-at-spec : {M : Type 1} → statement M
-u16-at-spec = tie.close (tie.spec sum16-at-requires returns)
+u16-at-spec = tie.close (tie.spec (λ c κs. search needs) returns)

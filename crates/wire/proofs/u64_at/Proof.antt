@@ -4,12 +4,9 @@ use borrow.Author.Needs.{needs}
 use Rattle.wire.proofs.u64_at.Statement.{statement}
 use Rattle.wire.proofs.u64_at.Tie as tie
 
-sum64-at-requires : tie.Need-sum64-at-requires
-sum64-at-requires c κs = search needs
-
 returns : tie.Need-returns
 unfolding u64At
 returns c = search needs
 
 pub u64-at-spec : {M : Type 1} → statement M
-u64-at-spec = tie.close (tie.spec sum64-at-requires returns)
+u64-at-spec = tie.close (tie.spec (λ c κs. search needs) returns)
