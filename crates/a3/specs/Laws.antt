@@ -31,12 +31,6 @@ sum-range : (places : ℕ) (e : ℕ → ℕ → ℕ) (L : ℕ → ℕ) → a3Sum
 unfolding a3SumOf
 sum-range places e L = sum-count (λ g. a3Part (e g) L) 1 places
 
-pub a3-same : (places : ℕ) (e f : ℕ → ℕ → ℕ) (L : ℕ → ℕ) → ((g t : ℕ) → t < tiers → e g t ≡ f g t) → a3SumOf places e L ≡ a3SumOf places f L
-a3-same places e f L h =
-    sum-range places e L
-    ∙ sum-same (λ k. a3Part (e (1 + k)) L) (λ k. a3Part (f (1 + k)) L) places (λ k _. part-same (e (1 + k)) (f (1 + k)) L (h (1 + k)))
-    ∙ sym (sum-range places f L)
-
 pub part-le : (e L : ℕ → ℕ) (m : ℕ) → ((t : ℕ) → L t ≤ m) → a3Part e L ≤ 5 * m
 unfolding a3Part sumOf
 part-le e L m h = omega (arith, h 1, h 3, h 4, h 5, h 6)

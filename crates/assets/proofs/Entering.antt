@@ -1,18 +1,18 @@
 -- One asset's entries, where it is reinsurance and where it is not.
-use mathlib.Core.Bool.{Bool, true, false}
-use mathlib.Core.Path.{_≡_, refl, _∙_}
+use mathlib.Core.Bool.{true, false}
+use mathlib.Core.Path.{_≡_}
 use mathlib.Core.List.{List}
-use Prim.Native.Nat.{ℕ, _+_, _-_, _/_, _%_, _^_, _≤_, _<_}
+use Prim.Native.Nat.{ℕ, _+_, _-_, _/_, _%_, _^_, _<_}
 use native.Mathlib.Omega.{arith}
 use Rattle.words.specs.Words.{if_then_else_}
 use Rattle.book.specs.declared.Asset.{Asset}
 use Rattle.book.specs.Fields.{linked, reinsurance}
-use Rattle.exposure.specs.Values.{stressed, net, ofReinsurance}
+use Rattle.exposure.specs.Values.{stressed, net}
 use Rattle.columns.specs.Column.{digit, ageOf}
 use Rattle.assets.specs.declared.Values.{Values}
 use Rattle.assets.specs.declared.Share.{Share}
 use Rattle.assets.specs.Shares.{restOf}
-use Rattle.assets.specs.Entered.{columnIn, capIn, linkedOf, lessNetted, Shared, TreatyFits, withTreaty, withOther, Settled, Enters, Entered}
+use Rattle.assets.specs.Entered.{columnIn, capIn, linkedOf, Shared, TreatyFits, withTreaty, withOther, Settled, Enters, Entered}
 
 -- what an asset's net starts from
 abbrev from : Asset → ℕ

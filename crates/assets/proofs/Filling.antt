@@ -1,13 +1,13 @@
 -- The tables and sums of the pass below a place: at its start, after each asset and at its end.
 use mathlib.Core.Bool.{Bool, true, false, not, _&&_}
-use mathlib.Core.Path.{_≡_, refl, sym, ap, ap₂, _∙_}
+use mathlib.Core.Path.{_≡_, refl, sym, _∙_}
 use mathlib.Core.List.{List}
-use Prim.Native.Nat.{ℕ, suc, _+_, _*_, _-_, _/_, _%_, _^_, _≤_, _<_}
+use Prim.Native.Nat.{ℕ, suc, _+_, _*_, _-_, _/_, _^_, _≤_, _<_}
 use native.Mathlib.Omega.{arith}
 use lib.Dec.{eqb}
 use lib.ListN.{length, getD, set, length-set}
 use borrow.Author.Tests.{eqb-true, eqb-false}
-use Rattle.words.specs.Words.{_=?_, if_then_else_}
+use Rattle.words.specs.Words.{if_then_else_}
 use Rattle.words.specs.Tables.{filled, filled-none, filled-next}
 use Rattle.book.specs.declared.Asset.{Asset}
 use Rattle.book.specs.declared.Counterparty.{Counterparty}
@@ -20,14 +20,14 @@ use Rattle.book.specs.TopLaws.{top-le}
 use Rattle.exposure.specs.Values.{net, ofReinsurance}
 use Rattle.exposure.specs.Parts.{remainder, halfCovered, mayBeCovered}
 use Rattle.rows.specs.Rows.{columns}
-use Rattle.columns.specs.Column.{columnOf, wordOf, termsOf, digit, ageOf, halved}
+use Rattle.columns.specs.Column.{columnOf, wordOf, termsOf, digit, ageOf}
 use Rattle.columns.specs.ColumnLaws.{word-kind, terms-column, terms-half}
 use Rattle.parties.specs.Rows.{rowOf, Parties}
 use Rattle.parties.specs.RowLaws.{tops-le}
 use Rattle.assets.specs.declared.Values.{Values}
 use Rattle.assets.specs.Marks.{markOf, marked}
 use Rattle.assets.specs.Shares.{restOf, capOf}
-use Rattle.assets.specs.Entered.{columnIn, capIn, linkedOf, lessNetted, with-asset, Enters, Entered}
+use Rattle.assets.specs.Entered.{columnIn, capIn, linkedOf, lessNetted, Enters, Entered}
 use Rattle.assets.specs.Assets.{restCell, Lent, Valued}
 use Rattle.assets.proofs.Sums.{Below, below-start, below-step, below-room, below-end}
 use Rattle.assets.proofs.Laws.{all-sum, linked-sum, reinsurance-sum, count-sum, net-most, linked-most, values-most, netted-most, stressed-most}

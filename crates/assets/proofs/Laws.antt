@@ -9,7 +9,7 @@ use Rattle.words.specs.Words.{if_then_else_}
 use Rattle.words.specs.Choice.{if-le}
 use Rattle.wire.specs.Bytes.{M}
 use Rattle.book.specs.declared.Asset.{Asset}
-use Rattle.book.specs.Records.{C, N, K}
+use Rattle.book.specs.Records.{C, N}
 use Rattle.book.specs.Check.{countsAdd}
 use Rattle.book.specs.Fields.{linked, reinsurance}
 use Rattle.book.specs.Book.{bookOf}

@@ -1,7 +1,6 @@
 -- A book that refusals 5 to 13 let pass is an accepted one.
 --   header-fits   what refusals 6 to 9 leave of a header
 --   accepted      what refusals 5 to 13 leave of a book
---   share-le      what a base within its bounds counts for is at most M
 use mathlib.Core.Bool.{Bool, true, false, _||_}
 use mathlib.Core.List.{List, [], _∷_}
 use mathlib.Core.Path.{_≡_}
@@ -49,11 +48,6 @@ header-fits b e =
       base = within (base b) (v .1 .1 .0) (v .1 .1 .1 .0);
       excluded = leb-true (excluded b) M (v .1 .0);
     }
-
--- "a negative base gives nothing": any share that is the base itself from 0 on and nothing below
-pub share-le : (share : ℤ → ℕ) → ((n : ℕ) → share (pos n) ≡ n) → ((n : ℕ) → share (negsuc n) ≡ 0) → (z : ℤ) → Within z → share z ≤ M
-share-le share p q (pos n) h = rw (p n) h
-share-le share p q (negsuc n) h = rw (q n) (omega arith)
 
 -- ---- records
 in-book : (c place : ℕ) → inBook c place ≡ true → (0 < place) × (place ≤ c)

@@ -3,7 +3,7 @@
 --   column-le tier-in                  a column is below `columns`, and part of its exposure's tier
 --   bill-column free-column a3-column  which exposures are in the columns that are no tier's own
 --   word-kind word-form                what stands in a counterparty's word
---   age-le terms-column terms-half terms-trust trust-le half-covered   and in its terms
+--   age-le terms-column terms-half terms-trust trust-le   and in its terms
 --   beq-true                           truths that test as equal
 use mathlib.Core.Bool.{Bool, true, false, not, _&&_, _||_, Bool·beq}
 use mathlib.Core.List.{List, [], _∷_}
@@ -18,11 +18,10 @@ use Rattle.words.specs.Choice.{never, both, joined, each-true, if-le}
 use Rattle.words.specs.Below.{allBelow, below, allTruths, at-truth}
 use Rattle.book.specs.declared.Kind.the-variants.{Bank, HomeGovernment, ProvincialGovernment, LifeCompany}
 use Rattle.book.specs.declared.Counterparty.{Counterparty}
-use Rattle.book.specs.declared.Asset.{Asset}
 use Rattle.book.specs.declared.Mitigant.{Mitigant}
-use Rattle.book.specs.Fields.{_is_, graded, related, affiliate, secondLimb, reinsurance}
+use Rattle.book.specs.Fields.{_is_, graded, related, affiliate, secondLimb}
 use Rattle.exposure.specs.declared.Exposure.{Exposure}
-use Rattle.exposure.specs.Parts.{coveredKind, coveredPart, halfCovered}
+use Rattle.exposure.specs.Parts.{coveredKind, coveredPart}
 use Rattle.exposure.specs.Tier.{noLimit, byMonths, gradedTier, ungradedTier, reinsuranceTier, lowerTier, tierBy}
 use Rattle.rows.specs.Rows.{noLimitColumn, billColumn, a3Columns, columns}
 use Rattle.columns.specs.Column.{a3Tiers, a3Column, columnBy, columnOf, tierIn, classOf, digit, wordAt, wordOf, digitOf, termsAt, termsOf, ageOf, halved, trustOf}
@@ -221,11 +220,6 @@ terms-computed = refl
 pub trust-le : (who : Counterparty) → trustOf who ≤ 3
 unfolding trustOf
 trust-le who = if-le (graded who) (if-le (related who) (omega arith) (if-le (who is Bank) (omega arith) (omega arith))) (omega arith)
-
--- whether half of an asset may be covered
-pub half-covered : (a : Asset) (who : Counterparty) → reinsurance a ≡ true → halfCovered a who ≡ halved who
-unfolding halfCovered
-half-covered a who e = rw e
 
 reinsured : (x : Exposure) (who : Counterparty) → x .kind ≡ 9 → columnBy false (who is LifeCompany) (if graded who then gradedTier who else ungradedTier x) ≡ columnOf x who
 unfolding columnOf tierBy lowerTier reinsuranceTier

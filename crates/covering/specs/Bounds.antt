@@ -1,18 +1,14 @@
 -- Bounds of exposures.
 --   all-le             those of an accepted book add up to at most 900 × M
---   covered-kind-le    a covered part's kind
 use mathlib.Core.Bool.{Bool, true, false}
 use mathlib.Core.List.{List}
 use mathlib.Core.Path.{_≡_, refl}
 use Prim.Native.Nat.{ℕ, zero, suc, _+_, _*_, _≤_, _<_}
 use native.Mathlib.Omega.{arith}
-use Rattle.words.specs.Words.{_=?_, sumOf, eachOf}
-use Rattle.words.specs.Choice.{if-le}
+use Rattle.words.specs.Words.{sumOf, eachOf}
 use Rattle.words.specs.Sums.{sum-append}
 use Rattle.wire.specs.Bytes.{M}
-use Rattle.book.specs.declared.Kind.the-variants.{Bank, HomeGovernment, ProvincialGovernment}
 use Rattle.book.specs.declared.Counterparty.{Counterparty}
-use Rattle.book.specs.declared.Mitigant.{Mitigant}
 use Rattle.book.specs.Records.{C, N, counterpartyAt, assetAt}
 use Rattle.book.specs.Fields.{_is_, linked}
 use Rattle.book.specs.Book.{Holding, holdingsFrom, bookOf}
@@ -20,7 +16,7 @@ use Rattle.book.specs.Accepted.{Accepted}
 use Rattle.exposure.specs.declared.Exposure.{Exposure}
 use Rattle.exposure.specs.Values.{net}
 use Rattle.exposure.specs.ValueLaws.{net-le}
-use Rattle.exposure.specs.Parts.{coveredKind, exposuresOf, exposures}
+use Rattle.exposure.specs.Parts.{exposuresOf, exposures}
 use Rattle.exposure.specs.PartLaws.{parts-net}
 use Rattle.covering.specs.Covered.{holdingAt}
 
@@ -52,9 +48,3 @@ holdings-le b acc (suc more) place first l h =
 pub all-le : (b : List ℕ) → Accepted b → sumOf (λ (x : Exposure). x .amount) (exposures (bookOf b)) ≤ 900 * M
 unfolding exposures bookOf
 all-le b acc = omega (arith, acc .assets, holdings-le b acc (N b) 1 1 (omega arith) (omega arith))
-
-pub covered-kind-le : (m : Mitigant) (who : Counterparty) → coveredKind m who ≤ 7
-unfolding coveredKind
-covered-kind-le m who =
-    if-le (m .form =? 1) (omega arith) (if-le (m .form =? 2) (omega arith) (if-le (m .form =? 3) (omega arith) (if-le (m .form =? 5) (omega arith)
-    (if-le (who is Bank) (omega arith) (if-le (who is HomeGovernment) (omega arith) (if-le (who is ProvincialGovernment) (omega arith) (omega arith)))))))

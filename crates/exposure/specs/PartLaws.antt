@@ -1,5 +1,5 @@
--- Laws of an asset's parts: covers-le, may-le; parts-sum, parts-net ("Parts and remainder add up to net"); parts-length, holding-length
--- (an asset that isn't linked gives one exposure for each mitigant and one remainder), linked-none (a linked one gives none).
+-- Laws of an asset's parts: covers-le, may-le; parts-sum, parts-net ("Parts and remainder add up to net"); linked-none (a linked
+-- asset gives none).
 use mathlib.Core.Bool.{true, false}
 use mathlib.Core.List.{List, [], _∷_}
 use mathlib.Core.Path.{_≡_, refl}
@@ -40,18 +40,6 @@ pub parts-net : (cs : ℕ → Counterparty) (h : Holding) → linked (h .asset) 
 unfolding exposuresOf
 parts-net cs h e =
     rw e (parts-sum cs (h .asset) (h .mitigants) (mayBeCovered cs (h .asset)) (net (h .asset)) (may-le cs (h .asset)))
-
-pub parts-length : (cs : ℕ → Counterparty) (a : Asset) (ms : List Mitigant) (still rest : ℕ) → length (partsOf cs a ms still rest) ≡ length ms + 1
-unfolding partsOf
-parts-length cs a [] still rest = refl
-parts-length cs a (m ∷ ms) still rest =
-    let part = covers a m (cs (m .counterparty)) still in
-    omega (arith, parts-length cs a ms (still - part) (rest - part))
-
-pub holding-length : (cs : ℕ → Counterparty) (h : Holding) → linked (h .asset) ≡ false → length (exposuresOf cs h) ≡ length (h .mitigants) + 1
-unfolding exposuresOf
-holding-length cs h e =
-    rw e (parts-length cs (h .asset) (h .mitigants) (mayBeCovered cs (h .asset)) (net (h .asset)))
 
 pub linked-none : (cs : ℕ → Counterparty) (h : Holding) → linked (h .asset) ≡ true → exposuresOf cs h ≡ []
 unfolding exposuresOf

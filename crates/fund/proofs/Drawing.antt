@@ -1,16 +1,14 @@
 -- What the passes ask for, and what they leave.
 use mathlib.Core.List.{List}
-use mathlib.Core.Path.{_≡_, refl, sym, _∙_}
+use mathlib.Core.Path.{_≡_}
 use Prim.Native.Nat.{ℕ, _+_, _*_, _≤_, _<_}
 use native.Mathlib.Omega.{arith}
 use lib.ListN.{length, getD}
-use Rattle.words.specs.Tables.{filled, filled-length, filled-at}
+use Rattle.words.specs.Tables.{filled-length, filled-at}
 use Rattle.book.specs.declared.Header.{Header}
-use Rattle.book.specs.Records.{headerSize, counterpartySize, assetSize, C, N, K, assetsStart, mitigantsStart, headerAt, counterpartyAt, assetAt}
+use Rattle.book.specs.Records.{headerSize, counterpartySize, assetSize, N, assetsStart, mitigantsStart, headerAt, assetAt}
 use Rattle.book.specs.HeaderLaws.{header-counts}
-use Rattle.book.specs.Book.{bookOf}
 use Rattle.book.specs.Accepted.{Accepted}
-use Rattle.rows.specs.Rows.{columns}
 use Rattle.parties.specs.Rows.{Parties}
 use Rattle.assets.specs.declared.Values.{Values}
 use Rattle.assets.specs.Assets as assets
@@ -20,7 +18,7 @@ use Rattle.covering.specs.Start.{ready}
 use Rattle.cells.specs.declared.Sums.{Sums}
 use Rattle.cells.specs.Cells.{Zeros, Placed, Tabled, Posted}
 use Rattle.cells.specs.CellLaws.{placed, tabled}
-use Rattle.fund.specs.Fund.{Lent, sumsOf, Cells, Drew, Exposed, Summed}
+use Rattle.fund.specs.Fund.{Lent, sumsOf, Drew, Exposed, Summed}
 
 -- where the sections start, out of the header
 module _ (b : List ℕ) {h : Header} (e : h ≡ headerAt b) where

@@ -1,13 +1,12 @@
 -- What the checks that were passed give the functions behind them: bounds, and the figures by their definitions.
-use mathlib.Core.Bool.{Bool}
 use mathlib.Core.List.{List}
-use mathlib.Core.Path.{_≡_, refl, sym, ap, _∙_}
-use Prim.Native.Nat.{ℕ, _+_, _*_, _≤_, _<_, _^_}
+use mathlib.Core.Path.{_≡_, refl, sym, ap}
+use Prim.Native.Nat.{ℕ, _+_, _≤_, _<_, _^_}
 use native.Mathlib.Omega.{arith}
 use lib.IntN.{ℤ, pos, negsuc}
 use lib.ListN.{length, getD}
 use Rattle.wire.specs.Bytes.{M}
-use Rattle.refusal.specs.declared.Checked.the-variants.{Fine, Bad}
+use Rattle.refusal.specs.declared.Checked.the-variants.{Fine}
 use Rattle.limit.specs.Limit.{counted}
 use Rattle.limit.specs.Bounds.{mostLimit}
 use Rattle.schedule.specs.declared.Schedule.{Schedule}
@@ -17,7 +16,7 @@ use Rattle.schedule.specs.Fits.{RatesFit}
 use Rattle.schedule.specs.FitsLaws.{schedule-length, rates-fit}
 use Rattle.schedule.specs.TierLaws.{limits-le}
 use Rattle.book.specs.Records.{C, counterpartyAt, base}
-use Rattle.book.specs.Book.{Book, bookOf}
+use Rattle.book.specs.Book.{bookOf}
 use Rattle.book.specs.Accepted.{Within, Accepted}
 use Rattle.book.specs.AcceptedLaws.{accepted}
 use Rattle.exposure.specs.Values.{VAF, VAF′, fundCheck}

@@ -4,7 +4,7 @@
 --   Cells Exposed Summed   the table of exposures by group, and the sums that no table holds
 --   LimitsOf RatedAs limits, ranking and figures of a fund that 14 and 15 let pass too
 --   nothing Made     what is made of a fund that they refuse, and of any
-use mathlib.Core.List.{List, []}
+use mathlib.Core.List.{List}
 use mathlib.Core.Path.{_≡_}
 use Prim.Native.Nat.{ℕ, _+_, _*_, _≤_, _<_}
 use lib.ListN.{length, getD, replicate}

@@ -1,6 +1,6 @@
 // The topmost parent of a counterparty: by recursion, the place falling at each call.
 ghost use mathlib.Core.Path.{_≡_};
-ghost use Prim.Native.Nat.{_+_, _*_, _≤_, _<_};
+ghost use Prim.Native.Nat.{_≤_, _<_};
 ghost use Rattle.book.specs.Records.{C, counterpartyAt};
 ghost use Rattle.book.specs.Book.{parentOf, topOf};
 ghost use Rattle.book.specs.Accepted.{Accepted};

@@ -1,17 +1,12 @@
 -- Numbers among a range, in order: what each number of the range gives, where the others give nothing; and sums.
 --   each-heads       of the places of a fund, the top places alone
---   sum-heads        a sum over the top places is at most that over all places
---   sum-heads-all    and the same where the others give 0
 use mathlib.Core.Path.{_≡_, refl, ap, sym, _∙_}
-use mathlib.Core.Bool.{Bool, true, false}
-use mathlib.Core.List.{List, [], _∷_, _++_}
+use mathlib.Core.List.{List, [], _++_}
 use Prim.Native.Nat.{ℕ, zero, suc, _+_, _≤_, _<_}
 use native.Mathlib.Omega.{arith}
 use native.Mathlib.Decide.{decLt}
 use lib.ListN.{getD}
-use Rattle.words.specs.Words.{_=?_, if_then_else_, sum, sumOf, eachOf, countFrom}
-use Rattle.words.specs.Sums.{sum-each, sum-each-same, sum-same, sum-count}
-use borrow.Author.Tests.{eq-eqb, eqb-true}
+use Rattle.words.specs.Words.{eachOf, countFrom}
 use Rattle.lines.specs.Table.{Heads}
 
 module _ (h : ℕ → ℕ) where
@@ -69,16 +64,6 @@ module _ (h : ℕ → ℕ) where
             none g (omega arith) (omega arith)
             (λ j r s z. elim (decLt k j) [ yes l ↦ d j (omega arith) (omega arith) z | no l ↦ (let y : j ≡ k = omega arith in let v : h j ≡ h k = ap h y in omega arith) ])
 
-  sums-among : (f : ℕ → ℕ) (n a m k : ℕ) → Among a n k m → sumOf (λ j. f (h j)) (countFrom k m) ≤ sumOf f (countFrom a n)
-  unfolding sumOf countFrom
-  sums-among f n a zero k w = omega arith
-  sums-among f zero a (suc m) k w = nowhere a k m w
-  sums-among f (suc n) a (suc m) k w =
-      elim (decLt a (h k)) [
-        | yes l ↦ omega (arith, sums-among f n (a + 1) (suc m) k (skip a n k (suc m) w (free a n k m w l)))
-        | no l ↦ omega (arith, ap f (first a n k m w l), sums-among f n (a + 1) m (k + 1) (pass a n k m w (first a n k m w l)))
-      ]
-
 module _ {heads : List ℕ} {places groups : ℕ} (H : Heads heads places groups) where
   abbrev top : ℕ → ℕ
   top k = getD heads k 0
@@ -92,32 +77,3 @@ module _ {heads : List ℕ} {places groups : ℕ} (H : Heads heads places groups
 
   pub each-heads : {A : Type 0} (f : ℕ → List A) → ((g : ℕ) → NoHead g → f g ≡ []) → eachOf f (countFrom 1 places) ≡ eachOf (λ k. f (top k)) (countFrom 0 groups)
   each-heads f none = each-among top f places 1 groups 0 among (λ g _ _ d. none g (λ k l. d k (omega arith) (omega arith)))
-
-  by-number : (f : ℕ → ℕ) → sumOf (λ k. f (top k)) (countFrom 0 groups) ≡ sum (λ k. f (top k)) groups
-  by-number f = sum-count (λ k. f (top k)) 0 groups ∙ sum-same (λ k. f (top (0 + k))) (λ k. f (top k)) groups (λ k _. ap (λ (j : ℕ). f (top j)) (omega arith))
-
-  by-place : (f : ℕ → ℕ) → sumOf f (countFrom 1 places) ≡ sum (λ g. f (g + 1)) places
-  by-place f = sum-count f 1 places ∙ sum-same (λ g. f (1 + g)) (λ g. f (g + 1)) places (λ g _. ap f (omega arith))
-
-  pub sum-heads : (f : ℕ → ℕ) → sum (λ k. f (top k)) groups ≤ sum (λ g. f (g + 1)) places
-  sum-heads f = omega (arith, sums-among top f places 1 groups 0 among, by-number f, by-place f)
-
-  pub sum-heads-all : (f : ℕ → ℕ) → ((g : ℕ) → NoHead g → f g ≡ 0) → sum (λ g. f (g + 1)) places ≡ sum (λ k. f (top k)) groups
-  unfolding sumOf
-  sum-heads-all f none =
-      sym (by-place f) ∙ sum-each-same f (λ g. sumOf (λ n. n) (given g)) (countFrom 1 places) whole
-      ∙ sym (sum-each (λ n. n) given (countFrom 1 places))
-      ∙ ap (sumOf (λ n. n)) (each-heads given (λ g d. rw (eq-eqb (f g) 0 (none g d))))
-      ∙ sum-each (λ n. n) (λ k. given (top k)) (countFrom 0 groups)
-      ∙ sum-each-same (λ k. sumOf (λ n. n) (given (top k))) (λ k. f (top k)) (countFrom 0 groups) (λ k. sym (whole (top k)))
-      ∙ by-number f
-    where
-      given : ℕ → List ℕ
-      given g = if f g =? 0 then [] else f g ∷ []
-
-      whole : (g : ℕ) → f g ≡ sumOf (λ n. n) (given g)
-      whole g = by (f g =? 0) refl
-        where
-          by : (b : Bool) → (f g =? 0) ≡ b → f g ≡ sumOf (λ n. n) (if b then [] else f g ∷ [])
-          by true e = eqb-true (f g) 0 e
-          by false e = omega arith

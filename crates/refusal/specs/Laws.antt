@@ -1,7 +1,6 @@
--- Laws of the chain of checks: then-first, then-rest, unless-fine, each-good say what a chain that found nothing says of its links;
--- then-assoc that sections can be chained in any grouping.
+-- Laws of the chain of checks: then-first, then-rest, unless-fine, each-good say what a chain that found nothing says of its links.
 use mathlib.Core.Bool.{Bool, true, false}
-use mathlib.Core.Path.{_≡_, refl, sym, ap, _∙_}
+use mathlib.Core.Path.{_≡_, refl}
 use Prim.Native.Nat.{ℕ, zero, suc, _+_, _≤_, _<_}
 use native.Mathlib.Omega.{arith}
 use lib.Dec.{eqb}
@@ -36,7 +35,3 @@ each-good why good (suc more) p e q l h = by (eqb q p) refl (each-good why good 
     by : (t : Bool) → eqb q p ≡ t → (p + 1 ≤ q → q < p + 1 + more → good q ≡ true) → good q ≡ true
     by true s r = rw (eqb-true q p s) (unless-fine (why p) (good p) (then-first (refuse why p unless good p) (firstBad why good (p + 1) more) e))
     by false s r = r (omega (arith, eqb-false q p s)) (omega arith)
-
-pub then-assoc : (a b c : Checked) → ((a andThen b) andThen c) ≡ (a andThen (b andThen c))
-then-assoc Fine b c = refl
-then-assoc (Bad why) b c = refl

@@ -5,7 +5,6 @@ use Prim.Native.Nat.{ℕ, zero, suc, _+_, _*_, _≤_, _<_}
 use native.Mathlib.Omega.{arith}
 use lib.ListN.{length, getD, replicate, length-replicate}
 use Rattle.book.specs.Records.{C, N, K}
-use Rattle.book.specs.Accepted.{Accepted}
 use Rattle.rows.specs.Rows.{columns}
 use Rattle.parties.specs.Rows as parties
 use Rattle.parties.specs.Rows.{topsTo}

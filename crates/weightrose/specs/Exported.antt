@@ -3,7 +3,6 @@
 --   Apart       the number tells a report from a refusal
 --   Reported    of weightrose_report
 --   Published   of weightrose_published
-use mathlib.Core.Bool.{Bool, true, false}
 use mathlib.Core.List.{List, _++_}
 use mathlib.Core.Path.{_≡_}
 use Prim.Native.Nat.{ℕ, _+_, _*_, _≤_, _<_}

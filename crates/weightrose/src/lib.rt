@@ -1,7 +1,7 @@
 // The library's exported entries, on numbers and byte slices.
 use refusal::Answer;
 ghost use mathlib.Core.Path.{_≡_};
-ghost use Prim.Native.Nat.{_+_, _*_, _≤_, _<_};
+ghost use Prim.Native.Nat.{_+_, _*_, _<_};
 ghost use lib.ListN.{length};
 ghost use Rattle.weightrose.specs.Exported.{packed, Reported, Published};
 

@@ -4,7 +4,7 @@
 --   bit                    a bit of a byte
 --   bytes16 bytes64        a number's bytes
 --   placed                 a list with other bytes at a place
-use mathlib.Core.Bool.{Bool, true, false}
+use mathlib.Core.Bool.{Bool}
 use mathlib.Core.List.{List, [], _∷_, _++_}
 use Prim.Native.Nat.{ℕ, _+_, _*_, _-_, _/_, _%_, _^_}
 use lib.IntN.{ℤ, pos, negsuc}

@@ -1,4 +1,4 @@
--- Laws of tests and of a choice: by-test, never, both, not-both, each-true (of tests that are `joined`), not-true, not-false, if-le.
+-- Laws of tests and of a choice: by-test, never, both, each-true (of tests that are `joined`), not-true, not-false, if-le.
 use mathlib.Core.Bool.{Bool, true, false, not, _&&_}
 use mathlib.Core.List.{List, [], _∷_}
 use mathlib.Core.Path.{_≡_, refl, sym, ap}
@@ -29,11 +29,6 @@ joined t (u ∷ us) = joined (t && u) us
 pub each-true : (t : Bool) (us : List Bool) → joined t us ≡ true → All (λ u. u ≡ true) (t ∷ us)
 each-true t [] e = (e, tt)
 each-true t (u ∷ us) e = let h = each-true (t && u) us e in (both t u (h .0) .0, (both t u (h .0) .1, h .1))
-
--- where the first of two holds and not both, the second does not
-pub not-both : (p q : Bool) → (p && q) ≡ false → p ≡ true → q ≡ false
-not-both true q e h = e
-not-both false q e h = never h
 
 -- a test that is denied
 pub not-true : (t : Bool) → not t ≡ true → t ≡ false

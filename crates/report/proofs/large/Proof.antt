@@ -2,7 +2,7 @@
 use native.Mathlib.Omega.{arith}
 use denote.Ref.{now}
 use Rattle.fund.proofs.Limits.{taken}
-use Prim.Native.Nat.{_+_, _*_}
+use Prim.Native.Nat.{_+_}
 use lib.ListN.{replicate}
 use Rattle.book.specs.Records.{C}
 use Rattle.parties.specs.RowLaws.{parties-of}

@@ -1,5 +1,5 @@
 -- `report::report` meets its contract: the sections of the checks in order, then the report.
-use mathlib.Core.Path.{_≡_, sym, _∙_}
+use mathlib.Core.Path.{sym, _∙_}
 use denote.Ref.{now}
 use Rattle.report.proofs.Chain.{bad-schedule, bad-book}
 use borrow.Author.Needs.{needs}
