@@ -9,12 +9,12 @@ ghost use Rattle.words.specs.Words.{sum as sumBelow};
 ghost use Rattle.wire.specs.Bytes.{M};
 ghost use Rattle.limit.specs.Bounds.{mostLimit};
 ghost use Rattle.cascade.specs.Cascade.{byTier};
-ghost use Rattle.rows.specs.Rows.{columns};
+ghost use Rattle.rows.specs.Rows.{mostGroups, columns};
 ghost use Rattle.a3.specs.A3.{a3Part, a3At};
 
 // What of group number k counts: tiers 1 and 3 to 6, each up to its limit.
 fn part(cells: &[u64], limits: [u64; TIERS], k: usize) -> u64
-    requires { ⌜ (k < 500) × (columns * k + columns ≤ length (now cells)) × ((t : ℕ) → getD limits t 0 ≤ mostLimit) ⌝ }
+    requires { ⌜ (k < mostGroups) × (columns * k + columns ≤ length (now cells)) × ((t : ℕ) → getD limits t 0 ≤ mostLimit) ⌝ }
     ensures { λ r. ⌜ r ≡ a3Part (a3At (now (cells .entry)) k) (byTier limits) ⌝ }
 {
     let at = COLUMNS * k + A3;
@@ -28,7 +28,7 @@ fn part(cells: &[u64], limits: [u64; TIERS], k: usize) -> u64
 
 // The A3 sum of the groups of numbers 0 to `groups` - 1.
 pub fn sum(cells: &[u64], limits: [u64; TIERS], groups: usize) -> u64
-    requires { ⌜ (groups ≤ 500) × (columns * groups ≤ length (now cells)) × ((t : ℕ) → getD limits t 0 ≤ mostLimit) ⌝ }
+    requires { ⌜ (groups ≤ mostGroups) × (columns * groups ≤ length (now cells)) × ((t : ℕ) → getD limits t 0 ≤ mostLimit) ⌝ }
     ensures { λ r. ⌜ (r ≡ sumBelow (λ k. a3Part (a3At (now (cells .entry)) k) (byTier limits)) groups) × (r ≤ 3750 * M) ⌝ }
 {
     let mut total: u64 = 0;

@@ -6,7 +6,7 @@ ghost use Prim.Native.Nat.{_+_, _*_, _-_, _^_, _≤_, _<_};
 ghost use lib.ListN.{length};
 ghost use Rattle.words.specs.Words.{if_then_else_};
 ghost use Rattle.wire.specs.Bytes.{M};
-ghost use Rattle.book.specs.Records.{N, assetsStart};
+ghost use Rattle.book.specs.Records.{mostAssets, N, assetsStart};
 ghost use Rattle.book.specs.Fields.{reinsurance};
 ghost use Rattle.book.specs.Accepted.{Accepted};
 ghost use Rattle.columns.specs.Column.{digit, ageOf};
@@ -149,7 +149,7 @@ fn enter(
 
 // An asset's mark among the mitigants: twice its place, and one more for reinsurance.
 fn mark_of(a: Asset, place: usize) -> u16
-    requires { ⌜ place ≤ 900 ⌝ }
+    requires { ⌜ place ≤ mostAssets ⌝ }
     ensures { λ r. ⌜ r ≡ 2 * place + (if reinsurance a then 1 else 0) ⌝ }
 {
     let more = choice::one(book::is_reinsurance(a));

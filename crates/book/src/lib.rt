@@ -5,7 +5,7 @@ ghost use lib.ListN.{length};
 ghost use Rattle.wire.specs.Bytes.{u16At, bit};
 ghost use Rattle.book.specs.Records.{headerSize, counterpartySize, assetSize, mitigantSize, assetsStart, mitigantsStart, counterpartyStart, kindOf, headerAt, counterpartyAt, assetAt, mitigantAt};
 ghost use Rattle.book.specs.Check.{bookMarked};
-ghost use Rattle.book.specs.Fields.{kindNumber, _is_, graded, related, affiliate, secondLimb, linked, rises, reinsurance};
+ghost use Rattle.book.specs.Fields.{kindNumber, graded, linked, rises, reinsurance};
 
 pub const VERSION: u16 = 1;
 
@@ -213,7 +213,7 @@ pub fn mitigant_at(b: &[u8], start: usize, place: usize) -> Mitigant
 }
 
 // Bit n of a byte.
-pub fn has_bit(b: u8, n: u8) -> bool
+fn has_bit(b: u8, n: u8) -> bool
     requires { ⌜ n < 8 ⌝ }
     ensures { λ r. ⌜ r ≡ bit n b ⌝ }
 {
@@ -233,35 +233,10 @@ pub fn kind_number(k: Kind) -> u8
     }
 }
 
-pub fn is_kind(who: Counterparty, k: Kind) -> bool
-    ensures { λ r. ⌜ r ≡ (who is k) ⌝ }
-{
-    let kind = who.kind;
-    kind_number(kind) == kind_number(k)
-}
-
 pub fn is_graded(who: Counterparty) -> bool
     ensures { λ r. ⌜ r ≡ graded who ⌝ }
 {
     (1 <= who.grade) & (who.grade <= 3)
-}
-
-pub fn is_related(who: Counterparty) -> bool
-    ensures { λ r. ⌜ r ≡ related who ⌝ }
-{
-    has_bit(who.flags, 0)
-}
-
-pub fn is_affiliate(who: Counterparty) -> bool
-    ensures { λ r. ⌜ r ≡ affiliate who ⌝ }
-{
-    has_bit(who.flags, 1)
-}
-
-pub fn is_second_limb(who: Counterparty) -> bool
-    ensures { λ r. ⌜ r ≡ secondLimb who ⌝ }
-{
-    has_bit(who.flags, 2)
 }
 
 pub fn is_linked(a: Asset) -> bool

@@ -20,7 +20,7 @@ use Rattle.exposure.specs.declared.Exposure.{Exposure}
 use Rattle.exposure.specs.Parts.{coveredPart, exposures}
 use Rattle.exposure.specs.Tier.{tierOf, noLimit}
 use Rattle.exposure.specs.Sums.{amountOf, exposureOf, a3ExposureOf, W}
-use Rattle.rows.specs.Rows.{columns, noLimitColumn, billColumn, a3Columns}
+use Rattle.rows.specs.Rows.{mostGroups, columns, noLimitColumn, billColumn, a3Columns}
 use Rattle.columns.specs.Column.{a3Tiers, columnBy, columnOf}
 use Rattle.parties.specs.Rows.{rowOf, wordsOf}
 use Rattle.assets.specs.Assets.{restCell}
@@ -88,7 +88,7 @@ columnSum cells column groups = sum (λ k. rowAt cells (columns * k) column) gro
 
 -- no sum of the fold passes the greatest number
 pub record FoldFits (groups : ℕ) (cells : List ℕ) : Type 0 where
-  pub few : groups ≤ 500
+  pub few : groups ≤ mostGroups
   pub size : columns * groups ≤ length cells
   pub tier : (k t : ℕ) → k < groups → t < tiers → folded (rowAt cells (columns * k)) t < 2 ^ 64
   pub bills : columnSum cells billColumn groups < 2 ^ 64

@@ -6,6 +6,7 @@ ghost use mathlib.Core.Path.{_≡_};
 ghost use Prim.Native.Nat.{min};
 ghost use lib.ListN.{length, take, drop};
 ghost use Rattle.io.specs.Counts.{Counts};
+ghost use Rattle.schedule.specs.Schedule.{scheduleSize};
 ghost use Rattle.report.specs.Answer.{Answered};
 
 // Room for a schedule, the longest book (63,240 bytes) and one byte more: a longer book is refused as one of that length is.
@@ -25,14 +26,18 @@ fn text_room() -> [u8; 209664]
 // Where the schedule ends: after 122 bytes, or at the end of a shorter input.
 fn schedule_end(input: &[u8]) -> usize
     ensures { λ r. ⌜ Counts r (now (input .entry)) ⌝ }
-    ensures { λ r. ⌜ r ≡ min (length (now (input .entry))) 122 ⌝ }
+    ensures { λ r. ⌜ r ≡ min (length (now (input .entry))) scheduleSize ⌝ }
 {
-    if input.len() < 122 { input.len() } else { 122 }
+    if input.len() < schedule::SIZE {
+        input.len()
+    } else {
+        schedule::SIZE
+    }
 }
 
 // The answer to the input: its first 122 bytes are the schedule, the rest is the book.
 fn answer(input: &[u8], lent: &mut [u8]) -> Answer
-    ensures { λ r. ⌜ Answered (take 122 (now (input .entry))) (drop 122 (now (input .entry))) (now (lent .entry)) (now (lent .exit)) r ⌝ }
+    ensures { λ r. ⌜ Answered (take scheduleSize (now (input .entry))) (drop scheduleSize (now (input .entry))) (now (lent .entry)) (now (lent .exit)) r ⌝ }
 {
     let end = schedule_end(input);
     report::report(&input[..end], &input[end..], lent)

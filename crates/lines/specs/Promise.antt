@@ -17,7 +17,7 @@ use Rattle.wire.specs.Bytes.{M, placed}
 use Rattle.cascade.specs.Cascade.{tiers, byTier, byLimit, ranked}
 use Rattle.figures.specs.declared.Figures.{Figures}
 use Rattle.figures.specs.Report.{headSize, lineSize, linesOf, report}
-use Rattle.rows.specs.Rows.{columns, row}
+use Rattle.rows.specs.Rows.{mostGroups, columns, row}
 use Rattle.lines.specs.Table.{setOf, Heads, tableFund}
 use Rattle.lines.specs.Listing.{groupIn, tierIn, exposureIn, shown, allEntries, entriesOf, tried, Source}
 
@@ -28,7 +28,7 @@ pub record Once (n : ℕ) (ranking : List ℕ) : Type 0 where
 
 -- a row to each group, an entry of sets to each, and room for an entry to each tier
 pub record Listable (cells : List ℕ) (groups : ℕ) (ranking sets list : List ℕ) : Type 0 where
-  pub few : groups ≤ 500
+  pub few : groups ≤ mostGroups
   pub rows : columns * groups ≤ length cells
   pub places : groups ≤ length sets
   pub room : tiers * groups ≤ length list
@@ -64,7 +64,7 @@ pub record Entries (S : Source) (list : List ℕ) (n room : ℕ) : Type 0 where
 -- the groups' sets of tiers, and the entries of the lines by the rank that the limits give.
 -- All exposures are parts of the nets of "N ≤ 900" assets, "each one read at most M".
 pub record Table (S : Source) (list : List ℕ) (groups n : ℕ) : Type 0 where
-  pub few : groups ≤ 500
+  pub few : groups ≤ mostGroups
   pub rows : columns * groups ≤ length (S .cells)
   pub places : groups ≤ length (S .sets)
   pub tops : groups ≤ length (S .heads)

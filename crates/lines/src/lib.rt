@@ -11,6 +11,7 @@ ghost use lib.ListN.{length};
 ghost use Rattle.words.specs.Words.{_<?_, sumOf};
 ghost use Rattle.wire.specs.Bytes.{bytes64, placed};
 ghost use Rattle.cascade.specs.Cascade.{tiers, byTier};
+ghost use Rattle.rows.specs.Rows.{mostGroups};
 ghost use Rattle.figures.specs.Report.{headSize, lineSize, joined, lineBytes, headBytes};
 ghost use Rattle.lines.specs.Table.{setOf};
 ghost use Rattle.lines.specs.Listing.{entry, tierIn, tried, source, listedLines};
@@ -97,7 +98,7 @@ fn list_group(
     exposures: [u64; TIERS],
     ranking: [usize; TIERS],
 ) -> u16
-    requires { ⌜ (k < 500) × (at + tiers ≤ length (now list)) × Once tiers ranking ⌝ }
+    requires { ⌜ (k < mostGroups) × (at + tiers ≤ length (now list)) × Once tiers ranking ⌝ }
     ensures { λ r. ⌜ (r ≡ setOf exposures) × (now (list .exit) ≡ tried (λ e. 0 <? byTier exposures (tierIn e)) at (map (entry k) ranking) (now (list .entry))) ⌝ }
 {
     let mut place = at;

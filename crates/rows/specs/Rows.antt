@@ -1,5 +1,5 @@
 -- A table of cells: a row of columns to each group. The groups are numbered from 0 by top place.
---   columns                              how many columns a row has
+--   mostGroups columns                   how many groups there are at most, and how many columns a row has
 --   noLimitColumn billColumn a3Columns   the columns behind the tiers
 --   row                                  the exposures of a group by tier
 --   row-at row-long                      an entry of a row, and how many there are
@@ -10,6 +10,10 @@ use native.Mathlib.Omega.{arith}
 use lib.ListN.{length, take, drop, getD, length-take, length-drop}
 use lib.Seq.{getD-take, getD-drop}
 use Rattle.cascade.specs.Cascade.{tiers, byTier}
+
+-- "C ≤ 500": a group has a counterparty of its own
+abbrev pub mostGroups : ℕ
+mostGroups = 500
 
 -- the tiers; what has no limit; tier c of kind 3, which makes up W; tiers 1 and 3 to 6 of counterparties not of kind 4, which count for A3
 abbrev pub columns : ℕ
