@@ -75,7 +75,8 @@ extern "C" {
  *    6  u16  counterparties
  *    8  u16  assets
  *   10  u16  mitigants
- *   12       four zero bytes
+ *   12       1 for a specialist fund (paragraph 46), else 0
+ *   13       three zero bytes
  *   16  u64  total assets
  *   24  i64  capital base, from -WEIGHTROSE_MOST_AMOUNT to WEIGHTROSE_MOST_AMOUNT
  *   32  u64  assets excluded by paragraph 20(b)
@@ -92,7 +93,7 @@ extern "C" {
  *            4 deposit, 5 guaranteed by a province, 6 traded, 7 loan, 8 property, 9 reinsurance,
  *            10 premiums owed, 11 any other
  *    1       bit 0 linked (paragraph 24), bit 1 rises under stress (paragraph 17)
- *    2       entry class: 0 none, 1 item (e), 2 item (g)
+ *    2       entry class: 0 none, 1 item (e), 2 item (g), 3 a specialist fund's retrocession
  *    3       completed months since the downgrade, 255 for 255 or more; needs an entry class
  *    4  u16  counterparty
  *    6  u16  how many mitigants are its own
@@ -113,13 +114,32 @@ extern "C" {
  * The report's layout is below, with the names of its fields.
  */
 
+/*
+ * Specialist funds (paragraph 46). Byte 12 of a book states that its fund is a specialist
+ * reinsurer's, and entry class 3 that an asset is the fund's retrocession to an overseas parent,
+ * associated or subsidiary company that, with APRA's agreement, has been identified as an
+ * appropriate retrocessionaire and had grade 1, 2 or 3 when the arrangement was entered into. Both
+ * are the caller's to know; the library checks only that no other fund's book has entry class 3.
+ * What mitigants leave of such an asset, if it is not linked, is in WEIGHTROSE_TIER_RETROCESSION
+ * while its counterparty has grade 1, 2 or 3, whatever the counterparty's kind and flags and the
+ * asset's months. With any other grade or none the months decide: 0 to 2 give the same tier, 3 to
+ * 11 WEIGHTROSE_TIER_RETROCESSION_FIRST, 12 to 23 WEIGHTROSE_TIER_RETROCESSION_SECOND, and from 24
+ * on it is in WEIGHTROSE_TIER_I_REINSURANCE, as reinsurance without an entry class. The limits of
+ * the three tiers are 500, 330 and 170 per mille of VAF', rounded down to a cent: they are not the
+ * schedule's, and neither its rows and percents nor the capital base change them. The three rank
+ * among a group's tiers by their limits, as all do. Attachment A, paragraph 3, does not count
+ * them; from 24 months on it counts the retrocession, as all in WEIGHTROSE_TIER_I_REINSURANCE. In
+ * all else (stresses, netting, mitigants and how much they may cover) a retrocession is
+ * reinsurance like any other, and byte 12 changes nothing for assets of another entry class.
+ */
+
 /* ========================================================================== */
 /*                                  Answers                                   */
 /* ========================================================================== */
 
 /*
- * Why a schedule or a book was turned back. The checks are made by rising number, and the answer
- * is the first that fails.
+ * Why a schedule or a book was turned back. The checks are made by rising number, but for 17, which
+ * is checked after 13 and before 14, and the answer is the first that fails.
  */
 enum weightrose_refusal {
 	/* Nothing was refused: there is a report. */
@@ -134,7 +154,8 @@ enum weightrose_refusal {
 	WEIGHTROSE_SCHEDULE_RATES = 4,
 	/* The book is shorter than its header of 40 bytes. */
 	WEIGHTROSE_BOOK_LENGTH = 5,
-	/* The book does not start with "ACB" and a zero byte, or bytes 12 to 15 are not zero. */
+	/* The book does not start with "ACB" and a zero byte, byte 12 is not 0 or 1, or bytes 13 to
+	 * 15 are not zero. */
 	WEIGHTROSE_BOOK_MARK = 6,
 	/* The book's version is not 1. */
 	WEIGHTROSE_BOOK_VERSION = 7,
@@ -155,7 +176,10 @@ enum weightrose_refusal {
 	/* The assets under stress (VAF', paragraph 20) are below 0 or over the most. */
 	WEIGHTROSE_STRESSED_ASSETS = 15,
 	/* The buffer is shorter than the report. */
-	WEIGHTROSE_BUFFER_SHORT = 16
+	WEIGHTROSE_BUFFER_SHORT = 16,
+	/* An asset, linked or not, has entry class 3 in a book that is no specialist fund's. The
+	 * place is its own, the first such asset's. Checked after 13 and before 14. */
+	WEIGHTROSE_SPECIALIST_ENTRY = 17
 };
 
 /* The refusal of an answer of weightrose_report(), WEIGHTROSE_ACCEPTED where there is a report. */
@@ -166,7 +190,8 @@ weightrose_refusal_of(uint64_t answer)
 }
 
 /* The place of a refused record, counted from 1: of the counterparty, asset or mitigant where the
- * refusal is of one of these, otherwise 0. Only for an answer with a refusal. */
+ * refusal is of one of these (10, 11 and 12, and 17 for an asset), otherwise 0. Only for an answer
+ * with a refusal. */
 static inline uint32_t
 weightrose_place_of(uint64_t answer)
 {
@@ -237,7 +262,7 @@ enum weightrose_header_field {
 enum weightrose_line_field {
 	WEIGHTROSE_LINE_TOP = 0,      /* place of the group's topmost parent, from 1 */
 	WEIGHTROSE_LINE_TIER = 2,     /* enum weightrose_tier */
-	WEIGHTROSE_LINE_TIER_SET = 4, /* bit n: the group has a line of tier n */
+	WEIGHTROSE_LINE_TIER_SET = 4, /* bit n, 0 to 15: the group has a line of tier n */
 	WEIGHTROSE_LINE_EXPOSURE = 8,
 	WEIGHTROSE_LINE_LIMIT = 16,
 	WEIGHTROSE_LINE_LEFT = 24,    /* the limit, less what stands in the group's lower tiers */
@@ -245,7 +270,8 @@ enum weightrose_line_field {
 };
 
 /* The tiers by their numbers: the items of Attachment A, paragraph 1, with reinsurance apart, and
- * the steps after a downgrade of paragraph 2. */
+ * the steps after a downgrade of its paragraph 2; then the retrocessions of specialist funds
+ * (paragraph 46), at 500, 330 and 170 per mille of VAF' whatever the schedule. */
 enum weightrose_tier {
 	WEIGHTROSE_TIER_I = 0,
 	WEIGHTROSE_TIER_I_REINSURANCE = 1,
@@ -259,7 +285,10 @@ enum weightrose_tier {
 	WEIGHTROSE_TIER_E = 9,
 	WEIGHTROSE_TIER_F = 10,
 	WEIGHTROSE_TIER_C = 11,
-	WEIGHTROSE_TIER_D = 12
+	WEIGHTROSE_TIER_D = 12,
+	WEIGHTROSE_TIER_RETROCESSION = 13,
+	WEIGHTROSE_TIER_RETROCESSION_FIRST = 14,
+	WEIGHTROSE_TIER_RETROCESSION_SECOND = 15
 };
 
 /* The line of that number, from 0, of a report. */

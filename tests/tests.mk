@@ -2,7 +2,7 @@
 # make -f tests/tests.mk TARGET there.
 #
 #     tests           all of the below but compare-long and bench
-#     tests-rust      document 01's cases and the slips, then the comparison with the second
+#     tests-rust      the documents' cases and the slips, then the comparison with the second
 #                     implementation
 #     tests-c         the C ledger: as C99, as C++, under valgrind and the sanitizers
 #     tests-install   the C ledger against an installed library

@@ -3,9 +3,9 @@
  *
  * It writes its records as a book, takes the published schedule from the library, asks for the
  * report, walks the report's lines and prints them, and names every refusal in a sentence. It
- * checks itself against document 01's figures (T2, T4, T5 and the table of refusals) and ends with
- * status 1 where one differs. Each block is as long as its bytes, so that a memory checker sees
- * any byte read or written past its end.
+ * checks itself against document 01's figures (T2, T4, T5 and the table of refusals) and those of
+ * document 02's specialist funds (C-11), and ends with status 1 where one differs. Each block is as
+ * long as its bytes, so that a memory checker sees any byte read or written past its end.
  */
 #include "weightrose.h"
 
@@ -18,6 +18,7 @@
 
 enum { NO_PARENT = 0, BANK = 1, UNGRADED = 0 };
 enum { BANK_BILL = 3, DEPOSIT = 4, TRADED = 6, REINSURANCE = 9, ANY_OTHER = 11 };
+enum { NO_ENTRY = 0, RETROCESSION = 3 };
 enum { CASH = 1 };
 
 struct counterparty {
@@ -36,9 +37,11 @@ struct asset {
 	uint16_t counterparty;
 	uint64_t value, combination_stress;
 	uint16_t mitigants;
+	uint8_t entry, months;
 };
 
 struct ledger {
+	uint8_t specialist;
 	uint64_t total_assets;
 	int64_t capital_base;
 	uint64_t excluded_assets;
@@ -50,7 +53,7 @@ struct ledger {
 	size_t mitigant_count;
 };
 
-static const struct ledger empty_ledger = { 0, 0, 0, NULL, 0, NULL, 0, NULL, 0 };
+static const struct ledger empty_ledger = { 0, 0, 0, 0, NULL, 0, NULL, 0, NULL, 0 };
 
 #define COUNT(array) (sizeof(array) / sizeof((array)[0]))
 
@@ -108,8 +111,9 @@ put_header(uint8_t *to, const struct ledger *ledger)
 	to = put_u16(to, (uint16_t)ledger->counterparty_count);
 	to = put_u16(to, (uint16_t)ledger->asset_count);
 	to = put_u16(to, (uint16_t)ledger->mitigant_count);
-	memset(to, 0, 4);
-	to = put_u64(to + 4, ledger->total_assets);
+	to = put_u8(to, ledger->specialist);
+	memset(to, 0, 3);
+	to = put_u64(to + 3, ledger->total_assets);
 	to = put_u64(to, (uint64_t)ledger->capital_base);
 	return put_u64(to, ledger->excluded_assets);
 }
@@ -126,8 +130,10 @@ static uint8_t *
 put_asset(uint8_t *to, const struct asset *asset)
 {
 	to = put_u8(to, asset->kind);
-	memset(to, 0, 3); /* flags, entry class, months */
-	to = put_u16(to + 3, asset->counterparty);
+	to = put_u8(to, 0); /* flags */
+	to = put_u8(to, asset->entry);
+	to = put_u8(to, asset->months);
+	to = put_u16(to, asset->counterparty);
 	to = put_u16(to, asset->mitigants);
 	to = put_u64(to, asset->value);
 	to = put_u64(to, 0); /* offsets */
@@ -217,6 +223,8 @@ sentence(enum weightrose_refusal refusal)
 		return "The assets under stress are below zero or too large.";
 	case WEIGHTROSE_BUFFER_SHORT:
 		return "The buffer is too short for the report.";
+	case WEIGHTROSE_SPECIALIST_ENTRY:
+		return "An asset is a retrocession that only a specialist fund may have.";
 	}
 	return "The answer is not one of this library's.";
 }
@@ -308,38 +316,48 @@ ledger_of(const struct counterparty *counterparties, size_t counterparty_count,
 	return ledger;
 }
 
+/* A line of a report: exposure, limit, left and excess are its amounts. */
+struct line {
+	uint16_t top;
+	uint8_t tier;
+	uint16_t tiers;
+	uint64_t amounts[4];
+};
+
 static void
-expect_line(const uint8_t *line, unsigned tier, const uint64_t amounts[4])
+expect_line(const char *name, const uint8_t *line, const struct line *expected)
 {
 	int i;
 
-	expect(weightrose_u16(line + WEIGHTROSE_LINE_TOP) == 1, "T2: a line's group");
-	expect(line[WEIGHTROSE_LINE_TIER] == tier, "T2: a line's tier");
-	expect(weightrose_u16(line + WEIGHTROSE_LINE_TIER_SET) ==
-	       (1 << WEIGHTROSE_TIER_I | 1 << WEIGHTROSE_TIER_H), "T2: the group's tiers");
+	expect(weightrose_u16(line + WEIGHTROSE_LINE_TOP) == expected->top, name);
+	expect(line[WEIGHTROSE_LINE_TIER] == expected->tier, name);
+	expect(weightrose_u16(line + WEIGHTROSE_LINE_TIER_SET) == expected->tiers, name);
 	for (i = 0; i < 4; i++)
-		expect(weightrose_u64(line + WEIGHTROSE_LINE_EXPOSURE + 8 * i) == amounts[i],
-		       "T2: an amount of a line");
+		expect(weightrose_u64(line + WEIGHTROSE_LINE_EXPOSURE + 8 * i) ==
+		       expected->amounts[i], name);
 }
 
 static void
 t2(void)
 {
+	enum { TIERS = 1 << WEIGHTROSE_TIER_I | 1 << WEIGHTROSE_TIER_H };
 	static const struct counterparty names[] = { { NO_PARENT, 0, UNGRADED, 0 } };
 	static const struct asset assets[] = {
-		{ ANY_OTHER, 1, 300000000, 0, 0 },
-		{ TRADED, 1, 300000000, 0, 0 },
+		{ ANY_OTHER, 1, 300000000, 0, 0, NO_ENTRY, 0 },
+		{ TRADED, 1, 300000000, 0, 0, NO_ENTRY, 0 },
 	};
-	static const uint64_t first[4] = { 300000000, 250000000, 250000000, 50000000 };
-	static const uint64_t second[4] = { 300000000, 500000000, 250000000, 50000000 };
+	static const struct line lines[] = {
+		{ 1, WEIGHTROSE_TIER_I, TIERS, { 300000000, 250000000, 250000000, 50000000 } },
+		{ 1, WEIGHTROSE_TIER_H, TIERS, { 300000000, 500000000, 250000000, 50000000 } },
+	};
 	struct ledger ledger = ledger_of(names, COUNT(names), assets, COUNT(assets));
 	struct block report = new_report("T2", &ledger);
 
 	expect(report.length == WEIGHTROSE_REPORT_HEADER_SIZE + 2 * WEIGHTROSE_REPORT_LINE_SIZE,
 	       "T2: the report's length");
 	expect(memcmp(report.bytes, "ACR\0\1\0\2\0", 8) == 0, "T2: the report's first bytes");
-	expect_line(weightrose_line(report.bytes, 0), WEIGHTROSE_TIER_I, first);
-	expect_line(weightrose_line(report.bytes, 1), WEIGHTROSE_TIER_H, second);
+	expect_line("T2: the first line", weightrose_line(report.bytes, 0), &lines[0]);
+	expect_line("T2: the second line", weightrose_line(report.bytes, 1), &lines[1]);
 	expect(weightrose_u64(report.bytes + WEIGHTROSE_HEADER_CHARGE) == 100000000, "T2: the charge");
 	free(report.bytes);
 }
@@ -349,16 +367,16 @@ t4_and_t5(void)
 {
 	static const struct counterparty banks[] = { { NO_PARENT, BANK, 1, 0 }, { NO_PARENT, BANK, 1, 0 } };
 	static const struct asset two_banks[] = {
-		{ DEPOSIT, 1, UINT64_C(4000000000), 0, 0 },
-		{ BANK_BILL, 2, UINT64_C(1000000000), 0, 0 },
+		{ DEPOSIT, 1, UINT64_C(4000000000), 0, 0, NO_ENTRY, 0 },
+		{ BANK_BILL, 2, UINT64_C(1000000000), 0, 0, NO_ENTRY, 0 },
 	};
 	static const struct asset one_more[] = {
-		{ DEPOSIT, 1, UINT64_C(4000000000), 0, 0 },
-		{ BANK_BILL, 2, UINT64_C(1000000001), 0, 0 },
+		{ DEPOSIT, 1, UINT64_C(4000000000), 0, 0, NO_ENTRY, 0 },
+		{ BANK_BILL, 2, UINT64_C(1000000001), 0, 0, NO_ENTRY, 0 },
 	};
 	static const struct asset one_bank[] = {
-		{ DEPOSIT, 1, UINT64_C(4000000000), 0, 0 },
-		{ BANK_BILL, 1, UINT64_C(1000000000), 0, 0 },
+		{ DEPOSIT, 1, UINT64_C(4000000000), 0, 0, NO_ENTRY, 0 },
+		{ BANK_BILL, 1, UINT64_C(1000000000), 0, 0, NO_ENTRY, 0 },
 	};
 	struct ledger ledger = ledger_of(banks, COUNT(banks), two_banks, COUNT(two_banks));
 
@@ -453,7 +471,7 @@ byte_refusals(void)
 	expect_schedule_refused(2, 'B', WEIGHTROSE_SCHEDULE_MARK);
 	expect_schedule_refused(4, 2, WEIGHTROSE_SCHEDULE_VERSION);
 	expect_schedule_refused(11, 6, WEIGHTROSE_SCHEDULE_RATES); /* row c's rate: 250 + 6 * 256 */
-	expect_book_refused(&empty_ledger, 12, 1, WEIGHTROSE_BOOK_MARK, 0);
+	expect_book_refused(&empty_ledger, 12, 2, WEIGHTROSE_BOOK_MARK, 0);
 	expect_book_refused(&empty_ledger, 4, 0, WEIGHTROSE_BOOK_VERSION, 0);
 	expect_book_refused(&empty_ledger, 8, 1, WEIGHTROSE_BOOK_COUNTS, 0);
 }
@@ -462,7 +480,7 @@ static void
 amount_refusals(void)
 {
 	static const struct counterparty names[] = { { NO_PARENT, 0, UNGRADED, 0 } };
-	static const struct asset five[] = { { REINSURANCE, 1, 5, 5, 0 } };
+	static const struct asset five[] = { { REINSURANCE, 1, 5, 5, 0, NO_ENTRY, 0 } };
 	struct ledger ledger = ledger_of(names, COUNT(names), five, COUNT(five));
 
 	ledger.capital_base = -WEIGHTROSE_MOST_AMOUNT - 1;
@@ -479,7 +497,10 @@ static void
 record_refusals(void)
 {
 	static const struct counterparty own_parent[] = { { NO_PARENT, BANK, 1, 0 }, { 2, BANK, 1, 0 } };
-	static const struct asset nobodys[] = { { ANY_OTHER, 1, 1, 0, 1 }, { ANY_OTHER, 0, 1, 0, 0 } };
+	static const struct asset nobodys[] = {
+		{ ANY_OTHER, 1, 1, 0, 1, NO_ENTRY, 0 },
+		{ ANY_OTHER, 0, 1, 0, 0, NO_ENTRY, 0 },
+	};
 	static const struct mitigant formless[] = { { 6, 0, 1, 1 } };
 	static const struct mitigant cash[] = { { CASH, 0, 1, 1 } };
 	struct ledger ledger = ledger_of(own_parent, COUNT(own_parent), NULL, 0);
@@ -496,6 +517,62 @@ record_refusals(void)
 	ledger.asset_count = 0;
 	ledger.mitigants = cash;
 	expect_ledger_refused(&ledger, WEIGHTROSE_MITIGANT_COUNTS, 0);
+}
+
+/* ---- Specialist funds ---- */
+
+/*
+ * A specialist fund retrocedes to its overseas parent, which is graded, and to two associated
+ * companies, downgraded three and twelve months ago. The same book of a fund that is no specialist
+ * is refused at its first retrocession.
+ */
+static void
+specialist_fund(void)
+{
+	enum {
+		TIERS = 1 << WEIGHTROSE_TIER_RETROCESSION |
+			1 << WEIGHTROSE_TIER_RETROCESSION_FIRST |
+			1 << WEIGHTROSE_TIER_RETROCESSION_SECOND
+	};
+	static const struct counterparty names[] = {
+		{ NO_PARENT, BANK, 1, 0 },
+		{ NO_PARENT, 0, 2, 0 },
+		{ 2, 0, UNGRADED, 0 },
+		{ 2, 0, UNGRADED, 0 },
+	};
+	static const struct asset assets[] = {
+		{ DEPOSIT, 1, UINT64_C(1000000000), 0, 0, NO_ENTRY, 0 },
+		{ REINSURANCE, 2, UINT64_C(1800000000), UINT64_C(1800000000), 0, RETROCESSION, 0 },
+		{ REINSURANCE, 3, UINT64_C(1700000000), UINT64_C(1700000000), 0, RETROCESSION, 3 },
+		{ REINSURANCE, 4, UINT64_C(1800000000), UINT64_C(1800000000), 0, RETROCESSION, 12 },
+	};
+	static const struct line lines[] = {
+		{ 1, WEIGHTROSE_TIER_D, 1 << WEIGHTROSE_TIER_D,
+		  { UINT64_C(1000000000), UINT64_C(5000000000), UINT64_C(5000000000), 0 } },
+		{ 2, WEIGHTROSE_TIER_RETROCESSION_SECOND, TIERS,
+		  { UINT64_C(1800000000), UINT64_C(1700000000), UINT64_C(1700000000), 100000000 } },
+		{ 2, WEIGHTROSE_TIER_RETROCESSION_FIRST, TIERS,
+		  { UINT64_C(1700000000), UINT64_C(3300000000), UINT64_C(1600000000), 100000000 } },
+		{ 2, WEIGHTROSE_TIER_RETROCESSION, TIERS,
+		  { UINT64_C(1800000000), UINT64_C(5000000000), UINT64_C(1700000000), 100000000 } },
+	};
+	struct ledger ledger = ledger_of(names, COUNT(names), assets, COUNT(assets));
+	struct block report;
+	unsigned i;
+
+	ledger.specialist = 1;
+	report = new_report("C-11", &ledger);
+	expect(weightrose_u16(report.bytes + WEIGHTROSE_HEADER_LINES) == COUNT(lines),
+	       "C-11: the number of lines");
+	for (i = 0; i < COUNT(lines); i++)
+		expect_line("C-11: a line", weightrose_line(report.bytes, i), &lines[i]);
+	expect(weightrose_u64(report.bytes + WEIGHTROSE_HEADER_A3_SUM) == 0, "C-11: the A3 sum");
+	expect(weightrose_u64(report.bytes + WEIGHTROSE_HEADER_CHARGE) == 300000000,
+	       "C-11: the charge");
+	free(report.bytes);
+
+	ledger.specialist = 0;
+	expect_ledger_refused(&ledger, WEIGHTROSE_SPECIALIST_ENTRY, 2);
 }
 
 static void
@@ -521,6 +598,7 @@ main(void)
 	byte_refusals();
 	amount_refusals();
 	record_refusals();
+	specialist_fund();
 	published_into_too_little();
 	printf("ledger: %d failures\n", failures);
 	return failures ? EXIT_FAILURE : EXIT_SUCCESS;

@@ -1,11 +1,13 @@
 //! Weightrose from the outside.
 //!
 //! - `weightrose`: the library's exported functions behind safe ones
-//! - `second`: a second implementation of document 01, and its deliberately wrong variants
+//! - `second`: a second implementation of the documents, and its deliberately wrong variants
 //! - `raw`: schedules and books by their fields, right or wrong, and their bytes
 //! - `inputs`: what the two are compared on
 //! - `compare`: one comparison, of the answer and of every byte lent
+//! - `cases`: the library's reports by their fields, for the documents' own cases
 
+pub mod cases;
 pub mod compare;
 pub mod inputs;
 pub mod random;

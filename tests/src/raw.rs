@@ -1,4 +1,4 @@
-//! Schedules and books by their fields, right or wrong, and their bytes as document 01 lays them
+//! Schedules and books by their fields, right or wrong, and their bytes as the documents lay them
 //! out. Nothing here knows which fields are accepted.
 
 /// Document 01's M, in cents.
@@ -27,7 +27,9 @@ pub struct RawBook {
     pub version: u16,
     /// C, N and K where they are not the numbers of records below.
     pub counts: Option<[u16; 3]>,
-    pub zeros: [u8; 4],
+    /// Byte 12, 1 for a specialist fund, and the zeros behind it.
+    pub specialist: u8,
+    pub zeros: [u8; 3],
     pub total: u64,
     pub base: i64,
     pub excluded: u64,
@@ -100,13 +102,14 @@ impl RawSchedule {
 }
 
 impl RawBook {
-    /// A book without records.
+    /// A book without records, of a fund that is no specialist.
     pub fn empty(total: u64, base: i64, excluded: u64) -> RawBook {
         RawBook {
             mark: *b"ACB\0",
             version: 1,
             counts: None,
-            zeros: [0; 4],
+            specialist: 0,
+            zeros: [0; 3],
             total,
             base,
             excluded,
@@ -133,6 +136,7 @@ impl RawBook {
         let mut bytes = self.mark.to_vec();
         put_u16(&mut bytes, &[self.version]);
         put_u16(&mut bytes, &self.counts.unwrap_or(held.map(|count| count as u16)));
+        bytes.push(self.specialist);
         bytes.extend(self.zeros);
         put_u64(&mut bytes, &[self.total, self.base as u64, self.excluded]);
         self.counterparties.iter().for_each(|counterparty| counterparty.put(&mut bytes));

@@ -31,7 +31,8 @@ pub enum Answer {
     Refused(Refusal),
 }
 
-/// Document 01's refusals by name, 1 to 16 in this order; 10 to 12 with the bad record's place.
+/// The refusals by name, 1 to 17 in this order; 10 to 12 with the bad record's place, 17 with the
+/// asset's. The library checks 1 to 13, then 17, then 14 to 16.
 #[derive(Clone, Copy, Debug, PartialEq, Eq)]
 pub enum Refusal {
     ScheduleLength,
@@ -50,10 +51,11 @@ pub enum Refusal {
     ReinsuranceValues,
     StressedAssets,
     BufferShort,
+    SpecialistEntry(u16),
 }
 
 impl Refusal {
-    /// Document 01's number.
+    /// The documents' number.
     pub fn number(self) -> u32 {
         match self {
             Refusal::ScheduleLength => 1,
@@ -72,15 +74,17 @@ impl Refusal {
             Refusal::ReinsuranceValues => 14,
             Refusal::StressedAssets => 15,
             Refusal::BufferShort => 16,
+            Refusal::SpecialistEntry(_) => 17,
         }
     }
 
-    /// "place is the record's for 10 to 12, else 0".
+    /// "place is the record's for 10 to 12, else 0"; C-11: 17 "with the asset's place".
     pub fn place(self) -> u16 {
         match self {
-            Refusal::Counterparty(place) | Refusal::Asset(place) | Refusal::Mitigant(place) => {
-                place
-            }
+            Refusal::Counterparty(place)
+            | Refusal::Asset(place)
+            | Refusal::Mitigant(place)
+            | Refusal::SpecialistEntry(place) => place,
             _ => 0,
         }
     }
@@ -120,6 +124,7 @@ impl Answer {
             14 => Refusal::ReinsuranceValues,
             15 => Refusal::StressedAssets,
             16 => Refusal::BufferShort,
+            17 => Refusal::SpecialistEntry(low as u16),
             _ => return None,
         };
         Some(Answer::Refused(refusal)).filter(|answer| answer.packed() == packed)

@@ -3,7 +3,9 @@
 
 use std::thread;
 use weightrose_tests::compare::{compare, library, second};
-use weightrose_tests::inputs::{largest_report_book, lifelike, Inputs, Parents, Shape};
+use weightrose_tests::inputs::{
+    largest_report_book, largest_specialist_book, lifelike, sixteen_tiers, Inputs, Parents, Shape,
+};
 use weightrose_tests::random::Random;
 use weightrose_tests::weightrose::{packed_report, published, LARGEST_REPORT};
 
@@ -25,13 +27,15 @@ fn threads_at_once() {
     });
 }
 
-/// The largest book, and one with a chain of 500 parents.
+/// The largest books, one with all sixteen tiers in each group, one with a chain of 500 parents.
 #[test]
 fn a_small_stack() {
     let shape =
         Shape { counterparties: 500, assets: 900, mitigants: 1_500, parents: Parents::Chain };
     let chain = lifelike(&mut Random::new(117, 0), &shape);
-    for book in [largest_report_book().bytes(), chain.bytes()] {
+    let groups = sixteen_tiers(75, 1, 1_000);
+    for book in [largest_report_book(), largest_specialist_book(), groups, chain] {
+        let book = book.bytes();
         let mut buffer = vec![0; LARGEST_REPORT];
         let call = move || packed_report(&published(), &book, &mut buffer);
         let thread = thread::Builder::new().stack_size(STACK + OWN_STACK).spawn(call).unwrap();

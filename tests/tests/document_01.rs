@@ -1,96 +1,13 @@
-//! Document 01's checked sums, T1 to T10, and its table of refusals, through the library, with the
-//! figures that the document gives.
+//! Document 01's checked sums, T1 to T10, and its table of refusals (with document 02's example of
+//! 6), through the library, with the figures that the document gives.
 
+use weightrose_tests::cases::{refusal, refused_book, report};
 use weightrose_tests::inputs::largest_report_book;
 use weightrose_tests::raw::*;
-use weightrose_tests::weightrose::{
-    self, Answer, Refusal, HEADER, LARGEST_BOOK, LARGEST_REPORT, LINE,
-};
+use weightrose_tests::weightrose::{self, Answer, Refusal, LARGEST_BOOK, LARGEST_REPORT};
 
 const TOTAL: u64 = 10_000_000_000;
 const BASE: i64 = 1_000_000_000;
-
-struct Report {
-    bytes: Vec<u8>,
-}
-
-#[derive(Debug, PartialEq, Eq)]
-struct Line {
-    top: u16,
-    tier: u8,
-    set: u16,
-    /// Exposure, limit, left, excess.
-    amounts: [u64; 4],
-}
-
-impl Report {
-    fn u16(&self, place: usize) -> u16 {
-        u16::from_le_bytes(self.bytes[place..place + 2].try_into().unwrap())
-    }
-
-    fn u64(&self, place: usize) -> u64 {
-        u64::from_le_bytes(self.bytes[place..place + 8].try_into().unwrap())
-    }
-
-    fn vaf(&self) -> u64 {
-        self.u64(8)
-    }
-
-    fn vaf_prime(&self) -> u64 {
-        self.u64(16)
-    }
-
-    fn all_net(&self) -> u64 {
-        self.u64(24)
-    }
-
-    fn charge(&self) -> u64 {
-        self.u64(64)
-    }
-
-    fn lines(&self) -> Vec<Line> {
-        assert_eq!(self.bytes.len(), HEADER + LINE * usize::from(self.u16(6)));
-        let line = |start: usize| Line {
-            top: self.u16(start),
-            tier: self.bytes[start + 2],
-            set: self.u16(start + 4),
-            amounts: std::array::from_fn(|amount| self.u64(start + 8 + 8 * amount)),
-        };
-        (HEADER..self.bytes.len()).step_by(LINE).map(line).collect()
-    }
-
-    /// What document 01's program prints for the report.
-    fn printed(&self) -> String {
-        let line = |line: &Line| {
-            let [exposure, limit, left, excess] = line.amounts;
-            format!("{} {} {exposure} {limit} {left} {excess}\n", line.top, line.tier)
-        };
-        let lines: String = self.lines().iter().map(line).collect();
-        format!("{lines}charge {}\n", self.charge())
-    }
-}
-
-fn report(book: &RawBook) -> Report {
-    let mut buffer = vec![0xa5; LARGEST_REPORT];
-    match weightrose::report(&weightrose::published(), &book.bytes(), &mut buffer) {
-        Answer::Report(length) => Report { bytes: buffer[..length].to_vec() },
-        Answer::Refused(refusal) => panic!("{refusal:?}"),
-    }
-}
-
-fn refusal(schedule: &[u8], book: &[u8], room: usize) -> Refusal {
-    let mut buffer = vec![0xa5; room];
-    let answer = weightrose::report(schedule, book, &mut buffer);
-    assert!(buffer.iter().all(|&byte| byte == 0xa5), "a refusal changed the buffer");
-    match answer {
-        Answer::Refused(refusal) => refusal,
-        Answer::Report(length) => panic!("a report of {length} bytes"),
-    }
-}
-
-fn refused_book(book: &RawBook) -> Refusal {
-    refusal(&weightrose::published(), &book.bytes(), LARGEST_REPORT)
-}
 
 fn refused_schedule(change: impl FnOnce(&mut RawSchedule)) -> Refusal {
     let mut schedule = RawSchedule::published();
@@ -261,7 +178,7 @@ fn refusals_1_to_4() {
 #[test]
 fn refusals_5_to_9() {
     assert_eq!(refusal(&weightrose::published(), &[], LARGEST_REPORT), Refusal::BookLength);
-    assert_eq!(refused_book(&RawBook { zeros: [1, 0, 0, 0], ..book() }), Refusal::BookMark);
+    assert_eq!(refused_book(&RawBook { specialist: 2, ..book() }), Refusal::BookMark);
     assert_eq!(refused_book(&RawBook { version: 0, ..book() }), Refusal::BookVersion);
     let mut assets = book();
     assets.counterparty(RawCounterparty::default());
@@ -319,9 +236,12 @@ fn an_answer_packs_and_unpacks() {
         for low in [0, 1, 500, 65_535, 65_536] {
             let packed = number << 32 | low;
             let answer = Answer::unpacked(packed);
-            let known = number == 0
-                || (10..=12).contains(&number) && low <= 65_535
-                || (1..=16).contains(&number) && low == 0;
+            let known = match number {
+                0 => true,
+                10..=12 | 17 => low <= 65_535,
+                1..=16 => low == 0,
+                _ => false,
+            };
             assert_eq!(answer.map(Answer::packed), Some(packed).filter(|_| known));
         }
     }

@@ -108,7 +108,12 @@ fn stand_ins_are_caught() {
         })
     };
     is_caught("a header naming lines that were not written", more_lines);
-    for refusal in [Refusal::ScheduleLength, Refusal::Asset(1), Refusal::BufferShort] {
+    for refusal in [
+        Refusal::ScheduleLength,
+        Refusal::Asset(1),
+        Refusal::BufferShort,
+        Refusal::SpecialistEntry(1),
+    ] {
         let refused: Subject = &|_, _, _| Answer::Refused(refusal).packed();
         is_caught("one refusal for all", refused);
     }

@@ -2,6 +2,7 @@
 use mathlib.Core.Path.{_≡_, refl}
 use Prim.Native.Nat.{ℕ}
 use Rattle.words.specs.Words.{_=?_, if_then_else_, sumOf, countFrom}
+use Rattle.cascade.specs.Cascade.{tiers}
 use Rattle.a3.specs.A3.{a3Part, a3SumOf}
 
 -- a group with an exposure in one tier
@@ -16,12 +17,13 @@ t8 : a3SumOf 3 (λ g. only 3 600000000) limit ≡ 1500000000
 unfolding a3SumOf a3Part sumOf countFrom
 t8 = refl
 
--- what each tier adds, 0 to 12
-each : sumOf (λ t. if a3Part (only t 7) limit =? 7 then 1 else 0) (countFrom 0 13) ≡ 5
+-- what each tier adds, 0 to 15
+each : sumOf (λ t. if a3Part (only t 7) limit =? 7 then 1 else 0) (countFrom 0 tiers) ≡ 5
 unfolding a3Part sumOf countFrom
 each = refl
 
--- the first and the last tier that count, and their neighbours
+-- the first and the last tier that count, and their neighbours; C-11's, which "A3 doesn't count"
 edges : (a3Part (only 0 7) limit ≡ 0) × (a3Part (only 1 7) limit ≡ 7) × (a3Part (only 2 7) limit ≡ 0) × (a3Part (only 3 7) limit ≡ 7) × (a3Part (only 6 7) limit ≡ 7) × (a3Part (only 7 7) limit ≡ 0)
+    × (a3Part (only 13 7) limit ≡ 0) × (a3Part (only 14 7) limit ≡ 0) × (a3Part (only 15 7) limit ≡ 0)
 unfolding a3Part sumOf
-edges = (refl, refl, refl, refl, refl, refl)
+edges = (refl, refl, refl, refl, refl, refl, refl, refl, refl)

@@ -1,5 +1,5 @@
 -- Laws of the A3 sum.
---   part-same a3-same   it depends on the thirteen tiers alone
+--   part-same a3-same   it depends on the tiers alone
 --   part-le             five tiers, each within its limit
 --   part-at             a group's part out of the cells
 --   by-number           the A3 sum of a book is the sum over the numbers of its groups

@@ -10,11 +10,12 @@ use borrow.Author.Tests.{le-leb, lt-leb}
 use Rattle.words.specs.Words.{sumOf}
 use Rattle.book.specs.Records.{headerSize, N, assetAt}
 use Rattle.book.specs.Book.{Holding, holdingsFrom}
-use Rattle.book.specs.Check.{countsAdd, headerCheck, recordsCheck, bookCheck}
+use Rattle.book.specs.Check.{countsAdd, headerCheck, recordsCheck, specialistCheck, bookCheck}
 use Rattle.refusal.specs.declared.Checked.{Checked}
 use Rattle.refusal.specs.declared.Checked.the-variants.{Fine, Bad}
 use Rattle.refusal.specs.declared.Refusal.{Refusal}
 use Rattle.refusal.specs.declared.Refusal.the-variants.{BookLength}
+use Rattle.refusal.specs.Chain.{_andThen_}
 
 -- `sum` is the counts of the assets before a place; the next asset's first mitigant is at place 1 + sum
 pub record Adding (b : List ℕ) (sum place : ℕ) : Type 0 where
@@ -59,6 +60,6 @@ module _ (b : List ℕ) where
   unfolding bookCheck
   by-header h e f = rw (le-leb headerSize (length b) h, sym e ∙ f)
 
-  pub by-records : {found : Checked} → headerSize ≤ length b → found ≡ headerCheck b → found ≡ Fine → recordsCheck b ≡ bookCheck b
+  pub by-records : {found : Checked} → headerSize ≤ length b → found ≡ headerCheck b → found ≡ Fine → (recordsCheck b andThen specialistCheck b) ≡ bookCheck b
   unfolding bookCheck
   by-records h e f = rw (le-leb headerSize (length b) h, sym e ∙ f)

@@ -1,11 +1,11 @@
-// Refusals 5 to 13: which byte strings are books.
+// Refusals 5 to 13 and 17: which byte strings are books.
 use refusal::Checked;
 use refusal::Refusal;
 ghost use mathlib.Core.Path.{_≡_};
 ghost use Prim.Native.Nat.{_≤_};
 ghost use lib.ListN.{length};
-ghost use Rattle.book.specs.Records.{headerSize, C, N, K, assetsStart, mitigantsStart};
-ghost use Rattle.book.specs.Check.{countsFit, amountsFit, countsAdd, headerCheck, counterpartiesCheck, assetsCheck, mitigantsCheck, recordsCheck, bookCheck};
+ghost use Rattle.book.specs.Records.{headerSize, C, N, K, specialist, assetsStart, mitigantsStart};
+ghost use Rattle.book.specs.Check.{countsFit, amountsFit, countsAdd, headerCheck, counterpartiesCheck, assetsCheck, mitigantsCheck, recordsCheck, specialistCheck, bookCheck};
 ghost use Rattle.book.specs.Accepted.{HeaderFits};
 
 // The base's bounds: -M and M.
@@ -129,7 +129,24 @@ fn records_check(b: &[u8]) -> Checked
     )
 }
 
-// ---- the whole book, 5 to 13
+// ---- the entries, 17: the first asset, in book order, with one that a specialist fund alone may have
+
+fn specialist_check(b: &[u8], marked: bool, n: usize, start: usize) -> Checked
+    requires { ⌜ HeaderFits (now b) × (marked ≡ specialist (now b)) × (n ≡ N (now b)) × (start ≡ assetsStart (now b)) ⌝ }
+    ensures { λ r. ⌜ r ≡ specialistCheck (now (b .entry)) ⌝ }
+{
+    let mut passed = 0;
+    while passed < n {
+        let place = passed + 1;
+        if !fields::entry_allowed(marked, book::asset_at(b, start, place)) {
+            return Checked::Bad(Refusal::SpecialistEntry(place as u16));
+        }
+        passed = place;
+    }
+    Checked::Fine
+}
+
+// ---- the whole book, 5 to 13 and 17
 
 // The first refusal of a byte string, or none: then it is a book that `Accepted` describes.
 pub fn check(b: &[u8]) -> Checked
@@ -141,6 +158,16 @@ pub fn check(b: &[u8]) -> Checked
     let header = header_check(b);
     match header {
         Checked::Bad(why) => Checked::Bad(why),
-        Checked::Fine => records_check(b),
+        Checked::Fine => {
+            let h = book::header_at(b);
+            let records = records_check(b);
+            let entries = specialist_check(
+                b,
+                h.specialist,
+                h.assets as usize,
+                book::assets_start(h),
+            );
+            refusal::and_then(records, entries)
+        }
     }
 }

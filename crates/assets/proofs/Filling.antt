@@ -49,7 +49,7 @@ module _ (cs : ℕ → Counterparty) (a : Asset) where
   who = cs (a .counterparty)
 
   -- the column of its remainder
-  pub column-is : who .flags < 8 → 0 < a .kind → a .kind < 12 → a .entry ≤ 2 → columnIn a (wordOf who) (termsOf who) ≡ columnOf (remainder a 0) who
+  pub column-is : who .flags < 8 → 0 < a .kind → a .kind < 12 → a .entry ≤ 3 → columnIn a (wordOf who) (termsOf who) ≡ columnOf (remainder a 0) who
   unfolding columnIn remainder
   column-is f l h e = by (eqb (a .kind) 9) refl
     where

@@ -83,7 +83,7 @@ pub record Settled (place cell rest half : ℕ) (caps₀ rests₀ cells₀ caps 
 pub record Enters (a : Asset) (place row : ℕ) (v : Values) (caps rests cells : List ℕ) : Type 0 where
   pub low : 0 < a .kind
   pub kind : a .kind < 12
-  pub entry : a .entry ≤ 2
+  pub entry : a .entry ≤ 3
   pub offsets : a .offsets ≤ M
   pub deductions : a .deductions ≤ M
   pub all : v .all + net a < 2 ^ 64

@@ -46,7 +46,7 @@ fn share_of(a: Asset, from: u64) -> Share
 
 // The column of what remains of reinsurance.
 fn treaty_column(a: Asset, terms: u64) -> u16
-    requires { ⌜ a .entry ≤ 2 ⌝ }
+    requires { ⌜ a .entry ≤ 3 ⌝ }
     ensures { λ r. ⌜ (r ≡ digit (ageOf (a .entry) (a .months)) terms) × (r < 32) ⌝ }
 {
     let entry = a.entry as u64;

@@ -1,6 +1,6 @@
--- A book that refusals 5 to 13 let pass is an accepted one.
+-- A book that refusals 5 to 13 and 17 let pass is an accepted one.
 --   header-fits   what refusals 6 to 9 leave of a header
---   accepted      what refusals 5 to 13 leave of a book
+--   accepted      what refusals 5 to 13 and 17 leave of a book
 use mathlib.Core.Bool.{Bool, true, false, _||_}
 use mathlib.Core.List.{List, [], _∷_}
 use mathlib.Core.Path.{_≡_}
@@ -15,14 +15,14 @@ use Rattle.words.specs.Choice.{both, each-true, never}
 use Rattle.wire.specs.Bytes.{M, byteAt, u16At}
 use Rattle.refusal.specs.declared.Checked.the-variants.{Fine}
 use Rattle.refusal.specs.declared.Refusal.{Refusal}
-use Rattle.refusal.specs.declared.Refusal.the-variants.{BookLength, BookMark, BookVersion, BookCounts, BookAmounts, MitigantCounts}
+use Rattle.refusal.specs.declared.Refusal.the-variants.{BookLength, BookMark, BookVersion, BookCounts, BookAmounts, MitigantCounts, SpecialistEntry}
 use Rattle.refusal.specs.Chain.{refuse_unless_, _andThen_}
 use Rattle.refusal.specs.Laws.{then-first, then-rest, unless-fine, each-good}
 use Rattle.book.specs.declared.Asset.{Asset}
 use Rattle.book.specs.declared.Mitigant.{Mitigant}
-use Rattle.book.specs.Records.{headerSize, mostCounterparties, mostAssets, mostMitigants, C, N, K, total, base, excluded, bookSize, counterpartyStart, counterpartyAt, assetAt, mitigantAt}
+use Rattle.book.specs.Records.{headerSize, mostCounterparties, mostAssets, mostMitigants, C, N, K, specialist, total, base, excluded, bookSize, counterpartyStart, counterpartyAt, assetAt, mitigantAt}
 use Rattle.book.specs.Fields.{reinsurance}
-use Rattle.book.specs.Check.{bookMarked, countsFit, amountsFit, goodCounterparty, inBook, noReinsuranceFields, reinsuranceFieldsFit, amountsWithin, goodAsset, goodMitigant, countsAdd, headerCheck, counterpartiesCheck, assetsCheck, mitigantsCheck, countsCheck, recordsCheck, bookCheck}
+use Rattle.book.specs.Check.{bookMarked, countsFit, amountsFit, goodCounterparty, inBook, noReinsuranceFields, reinsuranceFieldsFit, amountsWithin, goodAsset, goodMitigant, entryAllowed, countsAdd, headerCheck, counterpartiesCheck, assetsCheck, mitigantsCheck, countsCheck, recordsCheck, specialistCheck, bookCheck}
 use Rattle.book.specs.Accepted.{Within, HeaderFits, AssetFits, MitigantFits, Accepted}
 
 -- ---- the header
@@ -60,14 +60,14 @@ netted a false e r = never r
 asset-fits : (c : ℕ) (a : Asset) → goodAsset c a ≡ true → AssetFits c a
 unfolding goodAsset
 asset-fits c a e =
-    let h = each-true (1 ≤? a .kind) ((a .kind ≤? 11) ∷ (a .flags <? 4) ∷ (a .entry ≤? 2) ∷ inBook c (a .counterparty) ∷ amountsWithin a ∷ (if reinsurance a then reinsuranceFieldsFit a else noReinsuranceFields a) ∷ []) e in
+    let h = each-true (1 ≤? a .kind) ((a .kind ≤? 11) ∷ (a .flags <? 4) ∷ (a .entry ≤? 3) ∷ inBook c (a .counterparty) ∷ amountsWithin a ∷ (if reinsurance a then reinsuranceFieldsFit a else noReinsuranceFields a) ∷ []) e in
     let who = in-book c (a .counterparty) (h .1 .1 .1 .1 .0) in
     let w = each-true (a .value ≤? M) ((a .offsets ≤? M) ∷ (a .deductions ≤? M) ∷ (a .insurance ≤? M) ∷ (a .combination ≤? M) ∷ []) (h .1 .1 .1 .1 .1 .0) in
     record {
       kind-low = leb-true 1 (a .kind) (h .0);
       kind = omega (arith, leb-true (a .kind) 11 (h .1 .0));
       flags = ltb-true (a .flags) 4 (h .1 .1 .0);
-      entry = leb-true (a .entry) 2 (h .1 .1 .1 .0);
+      entry = leb-true (a .entry) 3 (h .1 .1 .1 .0);
       low = who .0;
       high = who .1;
       value = leb-true (a .value) M (w .0);
@@ -100,13 +100,19 @@ counterparty-fits b p e =
     let h = each-true (u16At b at <? p) ((byteAt b (at + 2) % 16 ≤? 7) ∷ (byteAt b (at + 2) / 16 ≤? 4) ∷ (byteAt b (at + 3) <? 8) ∷ []) e in
     (ltb-true (u16At b at) p (h .0), omega (arith, leb-true (byteAt b (at + 2) % 16) 7 (h .1 .0)), ltb-true (byteAt b (at + 3)) 8 (h .1 .1 .1 .0))
 
+-- the entry that a specialist fund alone may have
+allowed : (s : Bool) (a : Asset) → entryAllowed s a ≡ true → a .entry ≡ 3 → s ≡ true
+allowed true a t e = t
+allowed false a t e = never (rw e at t)
+
 -- ---- the book
 pub accepted : (b : List ℕ) → bookCheck b ≡ Fine → Accepted b
-unfolding bookCheck recordsCheck counterpartiesCheck assetsCheck mitigantsCheck countsCheck
+unfolding bookCheck recordsCheck counterpartiesCheck assetsCheck mitigantsCheck countsCheck specialistCheck
 accepted b e =
-    let e0 = then-rest (refuse BookLength unless headerSize ≤? length b) (headerCheck b andThen recordsCheck b) e in
-    let h = header-fits b (then-first (headerCheck b) (recordsCheck b) e0) in
-    let e1 = then-rest (headerCheck b) (recordsCheck b) e0 in
+    let e0 = then-rest (refuse BookLength unless headerSize ≤? length b) (headerCheck b andThen recordsCheck b andThen specialistCheck b) e in
+    let h = header-fits b (then-first (headerCheck b) (recordsCheck b andThen specialistCheck b) e0) in
+    let e4 = then-rest (headerCheck b) (recordsCheck b andThen specialistCheck b) e0 in
+    let e1 = then-first (recordsCheck b) (specialistCheck b) e4 in
     let e2 = then-rest (counterpartiesCheck b) (assetsCheck b andThen mitigantsCheck b andThen countsCheck b) e1 in
     let e3 = then-rest (assetsCheck b) (mitigantsCheck b andThen countsCheck b) e2 in
     let counterparty : (p : ℕ) → 0 < p → p ≤ C b → goodCounterparty b p ≡ true = λ p l g. each-good Refusal.Counterparty (goodCounterparty b) (C b) 1 (then-first (counterpartiesCheck b) (assetsCheck b andThen mitigantsCheck b andThen countsCheck b) e1) p l (omega arith) in
@@ -124,4 +130,9 @@ accepted b e =
       flags = λ p l g. counterparty-fits b p (counterparty p l g) .2;
       asset = λ p l g. asset-fits (C b) (assetAt b p) (each-good Refusal.Asset (λ place. goodAsset (C b) (assetAt b place)) (N b) 1 (then-first (assetsCheck b) (mitigantsCheck b andThen countsCheck b) e2) p l (omega arith));
       mitigant = λ p l g. mitigant-fits (C b) (mitigantAt b p) (each-good Refusal.Mitigant (λ place. goodMitigant (C b) (mitigantAt b place)) (K b) 1 (then-first (mitigantsCheck b) (countsCheck b) e3) p l (omega arith));
+      specialist =
+          λ p l g e.
+          allowed (specialist b) (assetAt b p)
+          (each-good SpecialistEntry (λ place. entryAllowed (specialist b) (assetAt b place)) (N b) 1 (then-rest (recordsCheck b) (specialistCheck b) e4) p l (omega arith))
+          e;
     }

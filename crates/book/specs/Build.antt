@@ -1,17 +1,17 @@
 -- Books out of numbers, as bytes, for worked cases.
 --   counterparty asset mitigant   the bytes of a record
---   bookBytes                     the bytes of a book
+--   bookBytes specialistBytes     the bytes of a book, and of one that is a specialist fund's
 --   bookComputed                  opens every definition on the way from them to a check
 use mathlib.Core.List.{List, [], _∷_, _++_}
 use Prim.Native.Nat.{ℕ, _+_, _*_}
-use lib.ListN.{length}
+use lib.ListN.{length, set}
 use Rattle.words.specs.Words.{sumOf, eachOf}
 use Rattle.wire.specs.Bytes.{u16At, u64At, i64At, bytes16, bytes64}
 use Rattle.refusal.specs.declared.Checked.{Checked}
 use Rattle.refusal.specs.Chain.{firstBad}
 use Rattle.book.specs.Records.{headerAt, counterpartyAt, assetAt, mitigantAt}
 use Rattle.book.specs.Book.{mitigantsFrom, holdingsFrom, bookOf, parentOf, topIn, topOf}
-use Rattle.book.specs.Check.{goodCounterparty, goodAsset, goodMitigant, countsAdd, headerCheck, counterpartiesCheck, assetsCheck, mitigantsCheck, countsCheck, recordsCheck, bookCheck}
+use Rattle.book.specs.Check.{goodCounterparty, goodAsset, goodMitigant, countsAdd, headerCheck, counterpartiesCheck, assetsCheck, mitigantsCheck, countsCheck, recordsCheck, specialistCheck, bookCheck}
 
 -- a counterparty's 4 bytes: parent, kind, grade, flags
 abbrev pub counterparty : ℕ → ℕ → ℕ → ℕ → List ℕ
@@ -35,7 +35,11 @@ bookBytes total base excluded counterparties assets mitigants =
     ++ bytes64 total ++ bytes64 base ++ bytes64 excluded
     ++ eachOf (λ r. r) counterparties ++ eachOf (λ r. r) assets ++ eachOf (λ r. r) mitigants
 
+-- the same in a specialist fund
+unfoldable pub specialistBytes : ℕ → ℕ → ℕ → List (List ℕ) → List (List ℕ) → List (List ℕ) → List ℕ
+specialistBytes total base excluded counterparties assets mitigants = set (bookBytes total base excluded counterparties assets mitigants) 12 1
+
 -- the check of a book, with every definition on the way opened: a proof that says `unfolding bookComputed` computes it
 unfoldable pub bookComputed : List ℕ → Checked
-unfolding sumOf eachOf u16At u64At i64At bookBytes firstBad headerAt counterpartyAt assetAt mitigantAt mitigantsFrom holdingsFrom bookOf parentOf topIn topOf goodCounterparty goodAsset goodMitigant countsAdd headerCheck counterpartiesCheck assetsCheck mitigantsCheck countsCheck recordsCheck bookCheck
+unfolding sumOf eachOf u16At u64At i64At bookBytes specialistBytes firstBad headerAt counterpartyAt assetAt mitigantAt mitigantsFrom holdingsFrom bookOf parentOf topIn topOf goodCounterparty goodAsset goodMitigant countsAdd headerCheck counterpartiesCheck assetsCheck mitigantsCheck countsCheck recordsCheck specialistCheck bookCheck
 bookComputed b = bookCheck b

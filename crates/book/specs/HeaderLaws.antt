@@ -1,9 +1,9 @@
--- A header that was read, number by number: header-counts, header-amounts.
+-- A header that was read, field by field: header-counts, header-amounts, header-specialist.
 use mathlib.Core.List.{List}
 use mathlib.Core.Path.{_≡_, ap}
 use Prim.Native.Nat.{ℕ}
 use Rattle.book.specs.declared.Header.{Header}
-use Rattle.book.specs.Records.{C, N, K, total, base, excluded, headerAt}
+use Rattle.book.specs.Records.{C, N, K, specialist, total, base, excluded, headerAt}
 
 module _ (b : List ℕ) {h : Header} (e : h ≡ headerAt b) where
   pub header-counts : (h .counterparties ≡ C b) × (h .assets ≡ N b) × (h .mitigants ≡ K b)
@@ -13,3 +13,7 @@ module _ (b : List ℕ) {h : Header} (e : h ≡ headerAt b) where
   pub header-amounts : (h .total ≡ total b) × (h .base ≡ base b) × (h .excluded ≡ excluded b)
   unfolding headerAt
   header-amounts = (ap (λ (x : Header). x .total) e, ap (λ (x : Header). x .base) e, ap (λ (x : Header). x .excluded) e)
+
+  pub header-specialist : h .specialist ≡ specialist b
+  unfolding headerAt
+  header-specialist = ap (λ (x : Header). x .specialist) e

@@ -1,11 +1,12 @@
 -- "Book": what stands where in its bytes.
 --   headerSize counterpartySize assetSize mitigantSize   how many bytes the header and a record of each type have
 --   mostCounterparties mostAssets mostMitigants          the most records of each type
---   C N K total base excluded headerAt                   the header's numbers, and all of them together
+--   C N K total base excluded specialist headerAt        what the header says, and all of it together
 --   assetsStart mitigantsStart bookSize                  where a section starts, and how many bytes its counts give a book
 --   counterpartyStart assetStart mitigantStart           where the record of a place starts
 --   kindOf                                               the kind of a number
 --   counterpartyAt assetAt mitigantAt                    the record of a place
+use mathlib.Core.Bool.{Bool}
 use mathlib.Core.List.{List}
 use Prim.Native.Nat.{ℕ, _+_, _*_, _-_, _/_, _%_}
 use lib.IntN.{ℤ}
@@ -66,7 +67,11 @@ base b = i64At b 24
 abbrev pub excluded : List ℕ → ℕ
 excluded b = u64At b 32
 
--- the header's numbers together
+-- C-11: "Header byte 12 set to 1 marks a specialist fund"
+abbrev pub specialist : List ℕ → Bool
+specialist b = byteAt b 12 =? 1
+
+-- what the header says, together
 unfoldable pub headerAt : List ℕ → Header
 headerAt b =
     record {
@@ -76,6 +81,7 @@ headerAt b =
       total = total b;
       base = base b;
       excluded = excluded b;
+      specialist = specialist b;
     }
 
 -- the sections follow the header in this order

@@ -1,8 +1,9 @@
--- "What the desk turns back", 5 to 13, as computed tables.
+-- "What the desk turns back", 5 to 13, and C-11's 17, as computed tables.
 --   examples    document 01's example of each refusal
 --   headers     both sides of each edge of a header
 --   edges       both sides of each edge of a record's fields
---   two-faults  the lower number and the first record win
+--   specialists both sides of each edge of 17 and of what a specialist fund may have
+--   two-faults  the lower number and the first record win, 17 behind 13
 use mathlib.Core.Bool.{Bool, _&&_}
 use mathlib.Core.List.{List, [], _∷_, _++_}
 use Prim.Native.Nat.{ℕ, _+_, _-_}
@@ -14,7 +15,7 @@ use Rattle.refusal.specs.declared.Checked.{Checked}
 use Rattle.refusal.specs.declared.Checked.the-variants.{Fine, Bad}
 use Rattle.refusal.specs.Refusals.{numberOf, placeOf}
 use Rattle.book.specs.Check.{bookCheck}
-use Rattle.book.specs.Build.{counterparty, asset, mitigant, bookBytes, bookComputed}
+use Rattle.book.specs.Build.{counterparty, asset, mitigant, bookBytes, specialistBytes, bookComputed}
 
 -- a book, and its refusal's number and place; 0 and 0 for none
 pub record Case : Type 0 where
@@ -61,6 +62,14 @@ ofAsset a = book (name ∷ []) (a ∷ []) []
 abbrev ofMitigant : List ℕ → List ℕ
 ofMitigant m = book (name ∷ []) (asset 11 0 0 0 1 1 0 0 0 0 0 ∷ []) (m ∷ [])
 
+-- the same in a specialist fund
+abbrev specialist : List (List ℕ) → List (List ℕ) → List (List ℕ) → List ℕ
+specialist counterparties assets mitigants = specialistBytes 100 10 0 counterparties assets mitigants
+
+-- reinsurance with entry class 3 and such months
+abbrev retroceded : ℕ → List ℕ
+retroceded months = asset 9 0 3 months 1 0 0 0 0 0 0
+
 -- −n as 64 bits
 abbrev minus : ℕ → ℕ
 minus n = 18446744073709551616 - n
@@ -70,8 +79,8 @@ unfoldable pub examples : List Case
 examples =
     -- 5 book under 40 bytes: empty
     ([] gives 5 at 0)
-    -- 6 its mark or zeros: byte 12 = 1
-    ∷ (set empty 12 1 gives 6 at 0)
+    -- 6 its mark or zeros: byte 12 = 2
+    ∷ (set empty 12 2 gives 6 at 0)
     -- 7 its version: 0
     ∷ (set empty 4 0 gives 7 at 0)
     -- 8 a count over its most, or another length: N = 901
@@ -86,6 +95,8 @@ examples =
     ∷ (ofMitigant (mitigant 6 0 1 0) gives 12 at 1)
     -- 13 counts don't add to K: K = 1, N = 0, C = 1
     ∷ (book (name ∷ []) [] (mitigant 1 0 1 0 ∷ []) gives 13 at 0)
+    -- 17 when entry 3 stands in a book whose byte 12 is 0
+    ∷ (ofAsset (retroceded 0) gives 17 at 1)
     ∷ []
 
 unfoldable pub headers : List Case
@@ -94,6 +105,10 @@ headers =
     ∷ (take 39 empty gives 5 at 0)
     ∷ (set empty 2 76 gives 6 at 0)
     ∷ (set empty 3 1 gives 6 at 0)
+    ∷ fine (set empty 12 1)
+    ∷ (set empty 12 255 gives 6 at 0)
+    ∷ (set empty 13 1 gives 6 at 0)
+    ∷ (set empty 14 1 gives 6 at 0)
     ∷ (set empty 15 1 gives 6 at 0)
     ∷ (set empty 4 2 gives 7 at 0)
     ∷ (set empty 5 1 gives 7 at 0)
@@ -122,14 +137,14 @@ edges =
     ∷ (ofName (counterparty 0 0 8 0) gives 10 at 1)
     ∷ (ofName (counterparty 0 5 0 0) gives 10 at 1)
     ∷ (ofName (counterparty 0 0 0 8) gives 10 at 1)
-    -- 11: kinds 1 to 11, entries 0 to 2, counterparties 1 to C, amounts to M
+    -- 11: kinds 1 to 11, entries 0 to 3, counterparties 1 to C, amounts to M
     ∷ fine (ofAsset (plain 1 1 M))
     ∷ (ofAsset (plain 0 1 0) gives 11 at 1)
     ∷ fine (ofAsset (plain 11 1 0))
     ∷ (ofAsset (plain 12 1 0) gives 11 at 1)
     ∷ fine (ofAsset (asset 9 3 2 0 1 0 0 0 0 0 0))
     ∷ (ofAsset (asset 9 4 0 0 1 0 0 0 0 0 0) gives 11 at 1)
-    ∷ (ofAsset (asset 9 0 3 0 1 0 0 0 0 0 0) gives 11 at 1)
+    ∷ (ofAsset (asset 9 0 4 0 1 0 0 0 0 0 0) gives 11 at 1)
     ∷ (ofAsset (plain 11 2 0) gives 11 at 1)
     ∷ fine (ofAsset (asset 9 0 0 0 1 0 M M M M M))
     ∷ (ofAsset (plain 11 1 (M + 1)) gives 11 at 1)
@@ -164,6 +179,24 @@ edges =
     ∷ (book (name ∷ []) (asset 11 0 0 0 1 32768 0 0 0 0 0 ∷ asset 11 0 0 0 1 32769 0 0 0 0 0 ∷ []) (mitigant 1 0 1 0 ∷ []) gives 13 at 0)
     ∷ []
 
+unfoldable pub specialists : List Case
+specialists =
+    -- entries 0 to 3 in a specialist fund, 0 to 2 in another
+    fine (specialist (name ∷ []) (retroceded 0 ∷ []) [])
+    ∷ fine (specialist (name ∷ []) (retroceded 255 ∷ asset 9 0 2 0 1 0 0 0 0 0 0 ∷ asset 9 0 0 0 1 0 0 0 0 0 0 ∷ plain 11 1 0 ∷ []) [])
+    ∷ fine (ofAsset (asset 9 0 2 255 1 0 0 0 0 0 0))
+    ∷ (specialist (name ∷ []) (asset 9 0 4 0 1 0 0 0 0 0 0 ∷ []) [] gives 11 at 1)
+    -- entry 3 is held to what entries 1 and 2 are: reinsurance alone has it
+    ∷ (specialist (name ∷ []) (asset 4 0 3 0 1 0 0 0 0 0 0 ∷ []) [] gives 11 at 1)
+    ∷ (specialist (name ∷ []) (asset 9 0 3 0 1 0 5 6 0 0 0 ∷ []) [] gives 11 at 1)
+    ∷ (specialist (name ∷ []) (asset 9 0 0 1 1 0 0 0 0 0 0 ∷ []) [] gives 11 at 1)
+    -- any months, and linked or not; the first of two, wherever it stands
+    ∷ (ofAsset (retroceded 255) gives 17 at 1)
+    ∷ (ofAsset (asset 9 1 3 0 1 0 0 0 0 0 0) gives 17 at 1)
+    ∷ (book (name ∷ []) (plain 11 1 0 ∷ retroceded 0 ∷ retroceded 0 ∷ []) [] gives 17 at 2)
+    ∷ (book (name ∷ []) (plain 11 1 0 ∷ asset 9 0 2 0 1 0 0 0 0 0 0 ∷ retroceded 24 ∷ []) [] gives 17 at 3)
+    ∷ []
+
 unfoldable pub twoFaults : List Case
 twoFaults =
     -- mark and version; version and length; length and total; base and parent
@@ -175,6 +208,11 @@ twoFaults =
     ∷ (book (name ∷ counterparty 2 0 0 0 ∷ []) (plain 0 1 0 ∷ []) [] gives 10 at 2)
     ∷ (book (name ∷ []) (asset 11 0 0 0 1 1 0 0 0 0 0 ∷ plain 0 1 0 ∷ []) (mitigant 6 0 1 0 ∷ []) gives 11 at 2)
     ∷ (book (name ∷ []) [] (mitigant 6 0 1 0 ∷ []) gives 12 at 1)
+    -- 17 behind 6, 11, of a later asset too, 12 and 13
+    ∷ (set (ofAsset (retroceded 0)) 13 1 gives 6 at 0)
+    ∷ (book (name ∷ []) (retroceded 0 ∷ plain 0 1 0 ∷ []) [] gives 11 at 2)
+    ∷ (book (name ∷ []) (asset 9 0 3 0 1 1 0 0 0 0 0 ∷ []) (mitigant 6 0 1 0 ∷ []) gives 12 at 1)
+    ∷ (ofAsset (asset 9 0 3 0 1 1 0 0 0 0 0) gives 13 at 0)
     -- the first of two bad records
     ∷ (book (name ∷ counterparty 0 5 0 0 ∷ counterparty 0 0 8 0 ∷ []) [] [] gives 10 at 2)
     ∷ (book (name ∷ []) (plain 1 1 0 ∷ plain 12 1 0 ∷ plain 0 1 0 ∷ []) [] gives 11 at 2)
@@ -193,6 +231,10 @@ headers-hold = tt
 pub edges-hold : T (every right edges)
 unfolding bookComputed every right edges
 edges-hold = tt
+
+pub specialists-hold : T (every right specialists)
+unfolding bookComputed every right specialists
+specialists-hold = tt
 
 pub two-faults-hold : T (every right twoFaults)
 unfolding bookComputed every right twoFaults

@@ -42,6 +42,7 @@ pub struct Header {
     pub total: u64,
     pub base: i64,
     pub excluded: u64,
+    pub specialist: bool,
 }
 
 pub struct Counterparty {
@@ -99,7 +100,7 @@ fn kind_of(n: u8) -> Kind
     }
 }
 
-// "ACB" and a zero, and the four zeros.
+// "ACB" and a zero, 0 or 1, and the three zeros.
 pub fn marked(b: &[u8]) -> bool
     requires { ⌜ headerSize ≤ length (now b) ⌝ }
     ensures { λ r. ⌜ r ≡ bookMarked (now (b .entry)) ⌝ }
@@ -108,7 +109,7 @@ pub fn marked(b: &[u8]) -> bool
         & (b[1] == b'C')
         & (b[2] == b'B')
         & (b[3] == 0)
-        & (b[12] == 0)
+        & (b[12] <= 1)
         & (b[13] == 0)
         & (b[14] == 0)
         & (b[15] == 0)
@@ -132,6 +133,7 @@ pub fn header_at(b: &[u8]) -> Header
         total: wire::u64_at(b, 16),
         base: wire::i64_at(b, 24),
         excluded: wire::u64_at(b, 32),
+        specialist: b[12] == 1,
     }
 }
 

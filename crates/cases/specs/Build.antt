@@ -1,10 +1,10 @@
 -- Names and books of the worked cases, over the records of book.specs.Build.
 --   name gradedName bank registered     counterparties without flags and parent
 --   covered plain reinsured entered     assets
---   minus usual                         a base below 0; the usual book
+--   minus usual specialist              a base below 0; the usual book, and one that is a specialist fund's
 use mathlib.Core.List.{List}
 use Prim.Native.Nat.{ℕ, _-_}
-use Rattle.book.specs.Build.{counterparty, asset, bookBytes}
+use Rattle.book.specs.Build.{counterparty, asset, bookBytes, specialistBytes}
 
 -- ungraded of kind 0; graded of kind 0; a graded bank; an ungraded registered life company
 abbrev pub name : List ℕ
@@ -41,3 +41,6 @@ minus n = 18446744073709551616 - n
 -- "total 10,000,000,000, base 1,000,000,000, unless said"
 abbrev pub usual : List (List ℕ) → List (List ℕ) → List (List ℕ) → List ℕ
 usual counterparties assets mitigants = bookBytes 10_000_000_000 1_000_000_000 0 counterparties assets mitigants
+
+abbrev pub specialist : List (List ℕ) → List (List ℕ) → List (List ℕ) → List ℕ
+specialist counterparties assets mitigants = specialistBytes 10_000_000_000 1_000_000_000 0 counterparties assets mitigants

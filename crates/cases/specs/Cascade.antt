@@ -1,11 +1,12 @@
--- "Cascade (P23)" and A3: a group with all thirteen tiers, tiers whose rank is not that of their numbers, groups by topmost parent, A3 with kind 4 in a group.
+-- "Cascade (P23)" and A3: a group with all sixteen tiers, tiers whose rank is not that of their numbers, groups by topmost parent, A3 with kind 4 in a group.
 use mathlib.Core.List.{List, [], _∷_, _++_}
 use Prim.Native.Nat.{ℕ}
 use lib.Dec.{T}
+use lib.ListN.{replicate}
 use Rattle.words.specs.Words.{every}
 use Rattle.book.specs.Build.{counterparty, bookBytes}
 use Rattle.figures.specs.Read.{groupExcessIn, chargeIn}
-use Rattle.cases.specs.Build.{plain, reinsured, entered, usual, name, gradedName}
+use Rattle.cases.specs.Build.{plain, reinsured, entered, usual, specialist, name, gradedName}
 use Rattle.cases.specs.Reading.{a3SumIn, a3LimitIn, printed, line, tierSets}
 use Rattle.cases.specs.Table.{Case, case, right}
 use Rattle.cases.specs.Opened.{reportComputed}
@@ -15,13 +16,14 @@ abbrev charges : List ℕ → List ℕ
 charges r = groupExcessIn r ∷ a3SumIn r ∷ a3LimitIn r ∷ chargeIn r ∷ []
 
 -- 1 a name, 2 its graded bank, 3 the bank's graded registered life company
-abbrev thirteen : List ℕ
-thirteen =
-    usual (name ∷ counterparty 1 1 1 0 ∷ counterparty 2 4 1 0 ∷ [])
+abbrev sixteen : List ℕ
+sixteen =
+    specialist (name ∷ counterparty 1 1 1 0 ∷ counterparty 2 4 1 0 ∷ [])
     (plain 11 1 100000000 ∷ reinsured 1 0 100000000 ∷ plain 6 1 300000000 ∷ reinsured 2 0 200000000
     ∷ entered 2 12 1 100000000 ∷ entered 2 3 1 100000000 ∷ entered 2 2 1 100000000
     ∷ entered 1 23 1 900000000 ∷ entered 1 11 1 900000000 ∷ entered 1 0 1 900000000
-    ∷ plain 10 3 900000000 ∷ plain 3 2 900000000 ∷ plain 4 2 4000000000 ∷ [])
+    ∷ plain 10 3 900000000 ∷ plain 3 2 900000000 ∷ plain 4 2 4000000000
+    ∷ entered 3 0 1 600000000 ∷ entered 3 255 2 400000000 ∷ entered 3 11 1 900000000 ∷ entered 3 23 1 700000000 ∷ [])
     []
 
 -- excluded assets make VAF′ 8,000,000,000
@@ -47,8 +49,8 @@ counted =
 
 unfoldable table : List Case
 table =
-    -- "tiers rank by limit in cents, then number; an equal limit counts as lower"
-    case thirteen (λ r. printed r ++ charges r)
+    -- "tiers rank by limit in cents, then number; an equal limit counts as lower"; C-11: "They rank and cascade like the rest, and A3 doesn't count them"
+    case sixteen (λ r. printed r ++ tierSets r ++ charges r)
     (line 1 0 100000000 250000000 250000000 0
     ++ line 1 1 100000000 250000000 150000000 0
     ++ line 1 4 100000000 425000000 225000000 0
@@ -58,11 +60,15 @@ table =
     ++ line 1 7 900000000 850000000 250000000 650000000
     ++ line 1 6 100000000 1250000000 400000000 0
     ++ line 1 8 900000000 1650000000 700000000 200000000
-    ++ line 1 9 900000000 2500000000 850000000 50000000
+    ++ line 1 15 700000000 1700000000 50000000 650000000
+    ++ line 1 9 900000000 2500000000 800000000 100000000
     ++ line 1 10 900000000 2500000000 0 900000000
     ++ line 1 11 900000000 2500000000 0 900000000
-    ++ line 1 12 4000000000 4100000000 1600000000 2400000000
-    ++ (5400000000 ∷ 600000000 ∷ 1250000000 ∷ 5400000000 ∷ []))
+    ++ line 1 14 900000000 3300000000 800000000 100000000
+    ++ line 1 12 4000000000 4100000000 800000000 3200000000
+    ++ line 1 13 1000000000 5000000000 900000000 100000000
+    ++ replicate 16 65535
+    ++ (7100000000 ∷ 600000000 ∷ 1250000000 ∷ 7100000000 ∷ []))
     -- "Tiers 1 and 3 to 9 use VAF′": they rank before 0 and 2
     ∷ case excluding (λ r. printed r ++ charges r)
     (line 1 1 100000000 200000000 200000000 0

@@ -9,6 +9,7 @@ pub mod Values
 pub mod Mitigants
 pub mod Limits
 pub mod Cascade
+pub mod Retrocession
 pub mod Faults
 pub mod Edges
 pub mod Buffer

@@ -8,7 +8,7 @@ use Rattle.words.specs.Words.{every}
 use Rattle.wire.specs.Bytes.{M}
 use Rattle.book.specs.Build.{counterparty, mitigant, bookBytes}
 use Rattle.report.specs.Answer.{answerOf}
-use Rattle.cases.specs.Build.{covered, plain, reinsured, usual, name, minus}
+use Rattle.cases.specs.Build.{covered, plain, reinsured, entered, usual, name, minus}
 use Rattle.cases.specs.Table.{publishedBytes, turned}
 use Rattle.cases.specs.Opened.{reportComputed}
 
@@ -42,8 +42,8 @@ table =
     ∷ bySchedule (set (set publishedBytes 10 221) 11 5) 4
     -- "book under 40 bytes": empty
     ∷ byBook [] 5 0
-    -- "its mark or zeros": byte 12 = 1
-    ∷ byBook (set empty 12 1) 6 0
+    -- "its mark or zeros" ("its example is now byte 12 = 2")
+    ∷ byBook (set empty 12 2) 6 0
     -- "its version": 0
     ∷ byBook (set empty 4 0) 7 0
     -- "a count over its most, or another length": N = 901
@@ -64,6 +64,8 @@ table =
     ∷ byBook (bookBytes 0 0 1 [] [] []) 15 0
     -- "buffer shorter than report": 71
     ∷ record { schedule = publishedBytes; book = empty; buffer = 71; number = 16; place = 0 }
+    -- "17 when entry 3 stands in a book whose byte 12 is 0"
+    ∷ byBook (usual (name ∷ []) (entered 3 0 1 1 ∷ []) []) 17 1
     ∷ []
 
 -- the answer is that refusal

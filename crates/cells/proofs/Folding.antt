@@ -72,7 +72,7 @@ all-onto row = onto 6 (a3Columns + 4) (onto 5 (a3Columns + 3) (onto 4 (a3Columns
 
 all-folded : (row : ℕ → ℕ) (t : ℕ) → t < tiers → all-onto row t ≡ folded row t
 unfolding folded apart columnBy a3Column
-all-folded row = each-below tiers (λ t. all-onto row t ≡ folded row t) (((((((((((((tt, omega arith), omega arith), omega arith), omega arith), omega arith), omega arith), omega arith), omega arith), omega arith), omega arith), omega arith), omega arith), omega arith)
+all-folded row = each-below tiers (λ t. all-onto row t ≡ folded row t) ((((((((((((((((tt, omega arith), omega arith), omega arith), omega arith), omega arith), omega arith), omega arith), omega arith), omega arith), omega arith), omega arith), omega arith), omega arith), omega arith), omega arith), omega arith)
 
 pub folded-row : {at : ℕ} {t₀ t : List ℕ} → Row at t₀ t (all-onto (rowAt t₀ at)) → FoldedRow at t₀ t
 folded-row {at} {t₀} w = record {

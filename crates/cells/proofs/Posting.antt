@@ -10,7 +10,7 @@ use Rattle.book.specs.Accepted.{Accepted, MitigantFits}
 use Rattle.exposure.specs.declared.Exposure.{Exposure}
 use Rattle.exposure.specs.Parts.{coveredPart, remainder}
 use Rattle.exposure.specs.Sums.{amountOf}
-use Rattle.rows.specs.Rows.{columns}
+use Rattle.rows.specs.Rows.{mostGroups, columns}
 use Rattle.columns.specs.Column.{digit, digitOf}
 use Rattle.columns.specs.ColumnLaws.{word-form}
 use Rattle.parties.specs.Rows.{topsTo}
@@ -36,14 +36,14 @@ module _ {b : List ℕ} {place : ℕ} {m : Mitigant} (acc : Accepted b) (l : 0 <
       ap₂ _+_ (er ∙ r .row (m .counterparty) (f .low) (f .high)) (ec ∙ ap (λ (w : ℕ). digit (digitOf (m .form)) w) (r .word (m .counterparty) (f .low) (f .high)) ∙ word-form who (acc .flags (m .counterparty) (f .low) (f .high)) m amount (f .form-low) (f .form))
       ∙ rw e refl
 
-  pub row-few : {words rows : List ℕ} {row : ℕ} → Rowed b words rows → row ≡ getD rows (m .counterparty) 0 → row < columns * 500
+  pub row-few : {words rows : List ℕ} {row : ℕ} → Rowed b words rows → row ≡ getD rows (m .counterparty) 0 → row < columns * mostGroups
   row-few r er =
       let f = fits in
       omega (arith, er, r .row (m .counterparty) (f .low) (f .high), row-small b (C b) (m .counterparty) (f .low) (f .high), tops-le b (C b), acc .counterparties)
 
 -- ---- room
 
-cell-few : {b : List ℕ} → Accepted b → (x : Exposure) → Inside b x → cellOf b x < columns * 500
+cell-few : {b : List ℕ} → Accepted b → (x : Exposure) → Inside b x → cellOf b x < columns * mostGroups
 cell-few {b} acc x i = omega (arith, cell-small b x i, tops-le b (C b), acc .counterparties)
 
 -- room for a list of exposures
@@ -82,7 +82,7 @@ module _ {b covered cells₀ cells : List ℕ} {place : ℕ} (o : OnParts b cove
     inside = let f = acc .mitigant place (o .low) h in record { low = f .low; high = f .high }
 
     module _ {cell : ℕ} (e : cell ≡ cellOf b part) where
-      pub part-few : cell < columns * 500
+      pub part-few : cell < columns * mostGroups
       part-few = omega (arith, e, cell-few acc part inside)
 
       pub part-small : cell < length cells
@@ -135,7 +135,7 @@ module _ {b rests cells₀ cells : List ℕ} {place : ℕ} (o : OnRests b rests 
       cell-left : cell ≡ cellOf b left
       cell-left = e ∙ rest-cell b place (getD rests place 0)
 
-      pub left-few : cell < columns * 500
+      pub left-few : cell < columns * mostGroups
       left-few = omega (arith, cell-left, cell-few acc left inside-rest)
 
       pub left-small : cell < length cells

@@ -24,7 +24,7 @@ use Rattle.exposure.specs.declared.Exposure.{Exposure}
 use Rattle.exposure.specs.Parts.{coveredKind, coveredPart}
 use Rattle.exposure.specs.Tier.{noLimit, byMonths, gradedTier, ungradedTier, reinsuranceTier, lowerTier, tierBy}
 use Rattle.rows.specs.Rows.{noLimitColumn, billColumn, a3Columns, columns}
-use Rattle.columns.specs.Column.{a3Tiers, a3Column, columnBy, columnOf, tierIn, classOf, digit, wordAt, wordOf, digitOf, termsAt, termsOf, ageOf, halved, trustOf}
+use Rattle.columns.specs.Column.{a3Tiers, a3Column, columnBy, columnOf, tierIn, classOf, digit, wordAt, wordOf, digitOf, termsAt, termsOf, ageAt, ageOf, halved, trustOf}
 use Rattle.columns.specs.ClassLaws.{ofClass, class-le, class-kind, class-graded, class-flags}
 
 pub beq-true : (a b : Bool) → Bool·beq a b ≡ true → a ≡ b
@@ -42,9 +42,11 @@ reinsurance-le : (x : Exposure) (who : Counterparty) → reinsuranceTier x who �
 unfolding reinsuranceTier gradedTier ungradedTier
 reinsurance-le x who =
     if-le (graded who)
-    (if-le ((who is LifeCompany && not (related who)) || secondLimb who) (omega arith) (if-le (affiliate who && not (who is LifeCompany)) (omega arith) (omega arith)))
+    (if-le (x .entry =? 3) (omega arith)
+    (if-le ((who is LifeCompany && not (related who)) || secondLimb who) (omega arith) (if-le (affiliate who && not (who is LifeCompany)) (omega arith) (omega arith))))
     (if-le (x .entry =? 1) (months-le (x .months) (omega arith) (omega arith) (omega arith))
-    (if-le (x .entry =? 2) (months-le (x .months) (omega arith) (omega arith) (omega arith)) (omega arith)))
+    (if-le (x .entry =? 2) (months-le (x .months) (omega arith) (omega arith) (omega arith))
+    (if-le (x .entry =? 3) (months-le (x .months) (omega arith) (omega arith) (omega arith)) (omega arith))))
 
 lower-le : (x : Exposure) (who : Counterparty) → lowerTier x who ≤ noLimit
 unfolding lowerTier
@@ -169,42 +171,58 @@ module _ (who : Counterparty) (h : who .flags < 8) where
 
 -- ---- its terms
 
--- the tier of reinsurance that is not graded, by entry and months together
+-- the tier of reinsurance that is not graded, by its digit
 abbrev aged : ℕ → ℕ
-aged n = getD (1 ∷ 1 ∷ 1 ∷ 1 ∷ 9 ∷ 8 ∷ 7 ∷ 1 ∷ 6 ∷ 5 ∷ 4 ∷ 1 ∷ []) n 0
+aged n = getD (1 ∷ 9 ∷ 8 ∷ 7 ∷ 6 ∷ 5 ∷ 4 ∷ 13 ∷ 14 ∷ 15 ∷ 1 ∷ []) n 0
 
-abbrev stage : Bool → Bool → Bool → ℕ
-stage p q r = if p then 0 else if q then 1 else if r then 2 else 3
+-- the digits of entry 3
+abbrev retroceded : ℕ → Bool
+retroceded n = 7 ≤? n
+
+-- what the digit of an entry has to be, by the ends of the stages of months that are not past
+aged-tests : ℕ → Bool → Bool → Bool → List Bool
+aged-tests e p q r =
+    let n = ageAt (4 * e + (if p then 0 else if q then 1 else if r then 2 else 3)) in
+    (n <? 11)
+    ∷ (aged n
+    =? (if e =? 1 then (if p then 9 else if q then 8 else if r then 7 else 1)
+    else if e =? 2 then (if p then 6 else if q then 5 else if r then 4 else 1)
+    else if e =? 3 then (if p then 13 else if q then 14 else if r then 15 else 1)
+    else 1))
+    ∷ Bool·beq (retroceded n) (e =? 3)
+    ∷ []
 
 aged-right : ℕ → Bool → Bool → Bool → Bool
-aged-right e p q r =
-    4 * e + stage p q r <? 12
-    && aged (4 * e + stage p q r)
-    =? (if e =? 1 then (if p then 9 else if q then 8 else if r then 7 else 1) else if e =? 2 then (if p then 6 else if q then 5 else if r then 4 else 1) else 1)
+aged-right e p q r = joined true (aged-tests e p q r)
 
-aged-computed : allBelow 3 (λ e. allTruths (λ p. allTruths (λ q. allTruths (λ r. aged-right e p q r)))) ≡ true
-unfolding allBelow allTruths aged-right
+aged-computed : allBelow 4 (λ e. allTruths (λ p. allTruths (λ q. allTruths (λ r. aged-right e p q r)))) ≡ true
+unfolding allBelow allTruths aged-right aged-tests ageAt
 aged-computed = refl
 
-aged-by : (e m : ℕ) → e ≤ 2 → aged-right e (m ≤? 2) (m ≤? 11) (m ≤? 23) ≡ true
+aged-by : (e m : ℕ) → e ≤ 3 → All (λ u. u ≡ true) (aged-tests e (m ≤? 2) (m ≤? 11) (m ≤? 23))
+unfolding aged-right
 aged-by e m h =
-    let of-entry = below 3 (λ e. allTruths (λ p. allTruths (λ q. allTruths (λ r. aged-right e p q r)))) aged-computed e (omega arith) in
+    let of-entry = below 4 (λ e. allTruths (λ p. allTruths (λ q. allTruths (λ r. aged-right e p q r)))) aged-computed e (omega arith) in
     let p = at-truth (λ p. allTruths (λ q. allTruths (λ r. aged-right e p q r))) of-entry (m ≤? 2) in
     let q = at-truth (λ q. allTruths (λ r. aged-right e (m ≤? 2) q r)) p (m ≤? 11) in
-    at-truth (λ r. aged-right e (m ≤? 2) (m ≤? 11) r) q (m ≤? 23)
+    each-true true (aged-tests e (m ≤? 2) (m ≤? 11) (m ≤? 23)) (at-truth (λ r. aged-right e (m ≤? 2) (m ≤? 11) r) q (m ≤? 23)) .1
 
-pub age-le : (entry months : ℕ) → entry ≤ 2 → ageOf entry months < 12
-unfolding ageOf aged-right
-age-le e m h = ltb-true _ _ (both _ _ (aged-by e m h) .0)
+pub age-le : (entry months : ℕ) → entry ≤ 3 → ageOf entry months < 11
+unfolding aged-tests
+age-le e m h = ltb-true _ _ (aged-by e m h .0)
 
-aged-is : (x : Exposure) → x .entry ≤ 2 → aged (ageOf (x .entry) (x .months)) ≡ ungradedTier x
-unfolding ageOf aged-right ungradedTier
-aged-is x h = eqb-true _ _ (both (ageOf (x .entry) (x .months) <? 12) _ (aged-by (x .entry) (x .months) h) .1)
+aged-is : (x : Exposure) → x .entry ≤ 3 → aged (ageOf (x .entry) (x .months)) ≡ ungradedTier x
+unfolding aged-tests ungradedTier
+aged-is x h = eqb-true _ _ (aged-by (x .entry) (x .months) h .1 .0)
+
+retroceded-is : (x : Exposure) → x .entry ≤ 3 → retroceded (ageOf (x .entry) (x .months)) ≡ (x .entry =? 3)
+unfolding aged-tests
+retroceded-is x h = beq-true _ _ (aged-by (x .entry) (x .months) h .1 .1 .0)
 
 ages-right : ℕ → ℕ → Bool
 ages-right c n =
     let who = ofClass c in
-    digit n (termsAt c) =? columnBy false (who is LifeCompany) (if graded who then gradedTier who else aged n)
+    digit n (termsAt c) =? columnBy false (who is LifeCompany) (if graded who then (if retroceded n then 13 else gradedTier who) else aged n)
 
 half-right : ℕ → Bool
 half-right c = termsAt c / 2 ^ 60 % 2 =? (if halved (ofClass c) then 1 else 0)
@@ -212,7 +230,7 @@ half-right c = termsAt c / 2 ^ 60 % 2 =? (if halved (ofClass c) then 1 else 0)
 trust-right : ℕ → Bool
 trust-right c = termsAt c / 2 ^ 61 =? trustOf (ofClass c)
 
-terms-computed : allBelow 80 (λ c. allBelow 12 (ages-right c) && half-right c && trust-right c) ≡ true
+terms-computed : allBelow 80 (λ c. allBelow 11 (ages-right c) && half-right c && trust-right c) ≡ true
 unfolding allBelow ages-right half-right trust-right digit termsAt columnBy a3Column gradedTier trustOf
 terms-computed = refl
 
@@ -221,24 +239,24 @@ pub trust-le : (who : Counterparty) → trustOf who ≤ 3
 unfolding trustOf
 trust-le who = if-le (graded who) (if-le (related who) (omega arith) (if-le (who is Bank) (omega arith) (omega arith))) (omega arith)
 
-reinsured : (x : Exposure) (who : Counterparty) → x .kind ≡ 9 → columnBy false (who is LifeCompany) (if graded who then gradedTier who else ungradedTier x) ≡ columnOf x who
+reinsured : (x : Exposure) (who : Counterparty) → x .kind ≡ 9 → columnBy false (who is LifeCompany) (if graded who then (if x .entry =? 3 then 13 else gradedTier who) else ungradedTier x) ≡ columnOf x who
 unfolding columnOf tierBy lowerTier reinsuranceTier
 reinsured x who e = rw e
 
 module _ (who : Counterparty) (h : who .flags < 8) where
-  terms-right : All (λ u. u ≡ true) (allBelow 12 (ages-right (classOf who)) ∷ half-right (classOf who) ∷ trust-right (classOf who) ∷ [])
+  terms-right : All (λ u. u ≡ true) (allBelow 11 (ages-right (classOf who)) ∷ half-right (classOf who) ∷ trust-right (classOf who) ∷ [])
   terms-right =
       let c = classOf who in
-      each-true (allBelow 12 (ages-right c)) (half-right c ∷ trust-right c ∷ [])
-      (below 80 (λ c. allBelow 12 (ages-right c) && half-right c && trust-right c) terms-computed c (class-le who h))
+      each-true (allBelow 11 (ages-right c)) (half-right c ∷ trust-right c ∷ [])
+      (below 80 (λ c. allBelow 11 (ages-right c) && half-right c && trust-right c) terms-computed c (class-le who h))
 
   -- the column of reinsurance
-  pub terms-column : (x : Exposure) → x .kind ≡ 9 → x .entry ≤ 2 → digit (ageOf (x .entry) (x .months)) (termsOf who) ≡ columnOf x who
+  pub terms-column : (x : Exposure) → x .kind ≡ 9 → x .entry ≤ 3 → digit (ageOf (x .entry) (x .months)) (termsOf who) ≡ columnOf x who
   unfolding termsOf ages-right gradedTier
   terms-column x k g =
       let n = ageOf (x .entry) (x .months) in
-      let test = below 12 (ages-right (classOf who)) (terms-right .0) n (age-le (x .entry) (x .months) g) in
-      eqb-true _ _ (rw (class-kind who h, class-graded who h, class-flags who h, aged-is x g) at test) ∙ reinsured x who k
+      let test = below 11 (ages-right (classOf who)) (terms-right .0) n (age-le (x .entry) (x .months) g) in
+      eqb-true _ _ (rw (class-kind who h, class-graded who h, class-flags who h, aged-is x g, retroceded-is x g) at test) ∙ reinsured x who k
 
   pub terms-half : termsOf who / 2 ^ 60 % 2 ≡ (if halved who then 1 else 0)
   unfolding termsOf half-right

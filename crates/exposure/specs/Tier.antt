@@ -1,4 +1,4 @@
--- "Tiers (A1, A2)": the tier of an exposure, or noLimit.
+-- "Tiers (A1, A2)", and C-11's (P46): the tier of an exposure, or noLimit.
 --   tierOf tierBy lowerTier                          by kind and counterparty
 --   reinsuranceTier gradedTier ungradedTier byMonths    of kind 9
 use mathlib.Core.Bool.{not, _&&_, _||_}
@@ -30,16 +30,20 @@ byMonths months full first second =
     else if months ≤? 23 then second
     else 1
 
--- "Ungraded with an entry: (..)"; "entry class (0 none, 1 e, 2 g)"
+-- "Ungraded with an entry: (..)"; "entry class (0 none, 1 e, 2 g)". C-11: "Entry class 3 marks an identified retrocessionaire that was graded on
+-- entry"; "ungraded, months 0 to 2 give tier 13, 3 to 11 tier 14, 12 to 23 tier 15, from 24 the ordinary rule with no entry"
 unfoldable pub ungradedTier : Exposure → ℕ
 ungradedTier x =
     if x .entry =? 1 then byMonths (x .months) 9 8 7
     else if x .entry =? 2 then byMonths (x .months) 6 5 4
+    else if x .entry =? 3 then byMonths (x .months) 13 14 15
     else 1
 
--- the tier of kind 9: graded, or "Ungraded"
+-- the tier of kind 9: graded, or "Ungraded". C-11: of entry class 3 "Graded gives tier 13 whatever the months"
 unfoldable pub reinsuranceTier : Exposure → Counterparty → ℕ
-reinsuranceTier x who = if graded who then gradedTier who else ungradedTier x
+reinsuranceTier x who =
+    if graded who then (if x .entry =? 3 then 13 else gradedTier who)
+    else ungradedTier x
 
 -- "6 (traded), 8 (property): h. 10 (premiums owed) with graded kind 4: f. 11 (any other): i. Kind 7 (loan), and any of the above that
 -- fails its condition: h if graded, else i. Kind 9, by its counterparty's kind and flags"

@@ -1,8 +1,9 @@
 -- Tiers, computed: each one reached, each condition failed, and the months at both sides of each step.
--- A counterparty's flags: 1 related, 2 approved affiliate, 4 second limb. 13 is no limit.
-use mathlib.Core.List.{[], _∷_, map}
+-- A counterparty's flags: 1 related, 2 approved affiliate, 4 second limb. 16 is no limit.
+use mathlib.Core.List.{List, [], _∷_, map}
 use mathlib.Core.Path.{_≡_, refl}
 use Prim.Native.Nat.{ℕ}
+use lib.ListN.{replicate}
 use Rattle.book.specs.declared.Kind.the-variants.{Other, Bank, HomeGovernment, ProvincialGovernment, LifeCompany}
 use Rattle.book.specs.declared.Counterparty.{Counterparty}
 use Rattle.exposure.specs.Tier.{tierBy}
@@ -19,7 +20,7 @@ aged entry months who = tierBy (record { counterparty = 1; kind = 9; entry = ent
 free-cases :
     kindTier 1 (party HomeGovernment 0 0) ∷ kindTier 1 (party ProvincialGovernment 1 0) ∷ kindTier 1 (party Bank 0 0)
     ∷ kindTier 2 (party LifeCompany 0 1) ∷ kindTier 2 (party LifeCompany 1 0) ∷ kindTier 2 (party Other 0 1) ∷ []
-    ≡ 13 ∷ 2 ∷ 0 ∷ 13 ∷ 2 ∷ 0 ∷ []
+    ≡ 16 ∷ 2 ∷ 0 ∷ 16 ∷ 2 ∷ 0 ∷ []
 unfolding opened
 free-cases = refl
 
@@ -62,3 +63,19 @@ entry-g-cases = refl
 no-entry-cases : aged 0 0 (party LifeCompany 0 6) ∷ aged 0 0 (party Other 7 0) ∷ [] ≡ 1 ∷ 1 ∷ []
 unfolding opened
 no-entry-cases = refl
+
+-- entry 3, graded: tier 13 with each kind and flags that would otherwise give e, g or h, whatever the months
+retroceded-graded-cases :
+    map {B = List ℕ} (λ who. map {B = ℕ} (λ m. aged 3 m who) (0 ∷ 2 ∷ 3 ∷ 11 ∷ 12 ∷ 23 ∷ 24 ∷ 255 ∷ []))
+    (party LifeCompany 1 0 ∷ party LifeCompany 3 2 ∷ party Other 2 4 ∷ party LifeCompany 1 5 ∷ party Other 1 2 ∷ party Bank 3 3 ∷ party LifeCompany 1 1 ∷ party LifeCompany 2 3 ∷ party HomeGovernment 1 0 ∷ party ProvincialGovernment 1 1 ∷ [])
+    ≡ replicate 10 (replicate 8 13)
+unfolding opened
+retroceded-graded-cases = refl
+
+-- entry 3, ungraded: tier 13 for months 0 to 2, 14 for 3 to 11, 15 for 12 to 23, otherwise 1; whatever kind and flags, grades 0 and 4 to 7
+retroceded-ungraded-cases :
+    map {B = List ℕ} (λ who. map {B = ℕ} (λ m. aged 3 m who) (0 ∷ 2 ∷ 3 ∷ 11 ∷ 12 ∷ 23 ∷ 24 ∷ 255 ∷ []))
+    (party LifeCompany 0 0 ∷ party LifeCompany 4 2 ∷ party Other 7 4 ∷ party LifeCompany 5 5 ∷ party Other 6 2 ∷ party Bank 0 3 ∷ party LifeCompany 0 1 ∷ party Other 4 0 ∷ [])
+    ≡ replicate 8 (13 ∷ 13 ∷ 14 ∷ 14 ∷ 15 ∷ 15 ∷ 1 ∷ 1 ∷ [])
+unfolding opened
+retroceded-ungraded-cases = refl

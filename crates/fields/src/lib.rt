@@ -1,11 +1,11 @@
-// Refusals 10 to 12: the tests of one record's fields.
+// Refusals 10 to 12 and 17: the tests of one record's fields.
 use book::Asset;
 use book::Mitigant;
 ghost use mathlib.Core.Path.{_≡_};
 ghost use Prim.Native.Nat.{_+_, _*_, _<_, _≤_};
 ghost use lib.ListN.{length};
 ghost use Rattle.book.specs.Records.{headerSize, counterpartySize};
-ghost use Rattle.book.specs.Check.{goodCounterparty, inBook, noReinsuranceFields, reinsuranceFieldsFit, amountsWithin, goodAsset, goodMitigant};
+ghost use Rattle.book.specs.Check.{goodCounterparty, inBook, noReinsuranceFields, reinsuranceFieldsFit, amountsWithin, goodAsset, goodMitigant, entryAllowed};
 
 // The counterparty of a place: parent, grade, kind and flags. From the bytes, since a kind over 4 has no name in `Kind`.
 pub fn good_counterparty(b: &[u8], place: usize) -> bool
@@ -71,7 +71,7 @@ pub fn good_asset(c: u16, a: Asset) -> bool
     (1 <= a.kind)
         & (a.kind <= 11)
         & (a.flags < 4)
-        & (a.entry <= 2)
+        & (a.entry <= 3)
         & in_book(c, a.counterparty)
         & amounts_within(a)
         & choice::test(
@@ -90,4 +90,11 @@ pub fn good_mitigant(c: u16, m: Mitigant) -> bool
         & (m.flags < 32)
         & in_book(c, m.counterparty)
         & (m.value <= wire::M)
+}
+
+// Whether an asset's entry may stand in a specialist fund's book, or in another.
+pub fn entry_allowed(specialist: bool, a: Asset) -> bool
+    ensures { λ r. ⌜ r ≡ entryAllowed specialist a ⌝ }
+{
+    specialist | (a.entry != 3)
 }

@@ -1,4 +1,4 @@
--- Reports computed and read back: T1 and T2 of document 01, and a group of thirteen tiers among which limits are equal.
+-- Reports computed and read back: T1 and T2 of document 01, and a group of sixteen tiers among which limits are equal.
 use mathlib.Core.Path.{_≡_, refl}
 use mathlib.Core.List.{List, [], _∷_}
 use Prim.Native.Nat.{ℕ}
@@ -31,7 +31,7 @@ fund limits exposures groups a3Sum a3Limit =
 -- the limits of the published schedule at VAF 10,000,000,000 and base 1,000,000,000
 abbrev published : List ℕ
 published =
-    250000000 ∷ 250000000 ∷ 500000000 ∷ 500000000 ∷ 425000000 ∷ 825000000 ∷ 1250000000 ∷ 850000000 ∷ 1650000000 ∷ 2500000000 ∷ 2500000000 ∷ 2500000000 ∷ 5000000000 ∷ []
+    250000000 ∷ 250000000 ∷ 500000000 ∷ 500000000 ∷ 425000000 ∷ 825000000 ∷ 1250000000 ∷ 850000000 ∷ 1650000000 ∷ 2500000000 ∷ 2500000000 ∷ 2500000000 ∷ 5000000000 ∷ 5000000000 ∷ 3300000000 ∷ 1700000000 ∷ []
 
 t1-long : length (report (fund published [] 0 0 0)) ≡ 72
 unfolding report headBytes eachOf countFrom
@@ -53,18 +53,18 @@ t2-lines :
 unfolding u16At u64At ranks insert ranked next standing left excess excessSum sum eachOf countFrom tierSet lineOf cellLines groupExcess charge lineBytes headBytes headOf report lineFrom readExcess
 t2-lines = (refl, refl, refl, refl, refl, refl)
 
--- 6 in each tier of the second of two groups, limits equal in fives, tens, twenties, thirties and forties, the A3 sum 3 above its limit
+-- 6 in each tier of the second of two groups, limits equal in fives, tens, twenties, thirties, forties and fifties, the A3 sum 3 above its limit
 abbrev ties : List ℕ
-ties = report (fund (10 ∷ 10 ∷ 20 ∷ 20 ∷ 5 ∷ 30 ∷ 30 ∷ 5 ∷ 40 ∷ 40 ∷ 40 ∷ 40 ∷ 50 ∷ []) (6 ∷ 6 ∷ 6 ∷ 6 ∷ 6 ∷ 6 ∷ 6 ∷ 6 ∷ 6 ∷ 6 ∷ 6 ∷ 6 ∷ 6 ∷ []) 2 7 4)
+ties = report (fund (10 ∷ 10 ∷ 20 ∷ 20 ∷ 5 ∷ 30 ∷ 30 ∷ 5 ∷ 40 ∷ 40 ∷ 40 ∷ 40 ∷ 50 ∷ 20 ∷ 50 ∷ 5 ∷ []) (6 ∷ 6 ∷ 6 ∷ 6 ∷ 6 ∷ 6 ∷ 6 ∷ 6 ∷ 6 ∷ 6 ∷ 6 ∷ 6 ∷ 6 ∷ 6 ∷ 6 ∷ 6 ∷ []) 2 7 4)
 
 -- of each line
 abbrev each : (Line → ℕ) → List ℕ → List ℕ
 each f R = eachOf (λ i. f (lineAt R i) ∷ []) (countFrom 0 (linesIn R))
 
 ties-read :
-    (each (λ x. x .tier) ties ≡ 4 ∷ 7 ∷ 0 ∷ 1 ∷ 2 ∷ 3 ∷ 5 ∷ 6 ∷ 8 ∷ 9 ∷ 10 ∷ 11 ∷ 12 ∷ [])
-    × (each (λ x. x .left) ties ≡ 5 ∷ 0 ∷ 5 ∷ 0 ∷ 10 ∷ 4 ∷ 10 ∷ 4 ∷ 10 ∷ 4 ∷ 0 ∷ 0 ∷ 10 ∷ [])
-    × (each (λ x. x .excess) ties ≡ 1 ∷ 6 ∷ 1 ∷ 6 ∷ 0 ∷ 2 ∷ 0 ∷ 2 ∷ 0 ∷ 2 ∷ 6 ∷ 6 ∷ 0 ∷ [])
-    × (lineAt ties 12 .top ≡ 2) × (lineAt ties 12 .tiers ≡ 8191) × (groupExcessIn ties ≡ 32) × (chargeIn ties ≡ 35)
+    (each (λ x. x .tier) ties ≡ 4 ∷ 7 ∷ 15 ∷ 0 ∷ 1 ∷ 2 ∷ 3 ∷ 13 ∷ 5 ∷ 6 ∷ 8 ∷ 9 ∷ 10 ∷ 11 ∷ 12 ∷ 14 ∷ [])
+    × (each (λ x. x .left) ties ≡ 5 ∷ 0 ∷ 0 ∷ 5 ∷ 0 ∷ 10 ∷ 4 ∷ 0 ∷ 10 ∷ 4 ∷ 10 ∷ 4 ∷ 0 ∷ 0 ∷ 10 ∷ 4 ∷ [])
+    × (each (λ x. x .excess) ties ≡ 1 ∷ 6 ∷ 6 ∷ 1 ∷ 6 ∷ 0 ∷ 2 ∷ 6 ∷ 0 ∷ 2 ∷ 0 ∷ 2 ∷ 6 ∷ 6 ∷ 0 ∷ 2 ∷ [])
+    × (lineAt ties 15 .top ≡ 2) × (lineAt ties 15 .tiers ≡ 65535) × (groupExcessIn ties ≡ 46) × (chargeIn ties ≡ 49)
 unfolding u16At u64At ranks insert ranked next standing left excess excessSum sum eachOf countFrom tierSet lineOf cellLines groupExcess charge lineBytes headBytes headOf report lineFrom
 ties-read = (refl, refl, refl, refl, refl, refl, refl)

@@ -1,5 +1,5 @@
 -- What the fund's functions start from and leave.
---   Passed           a schedule and a book that refusals 1 to 13 let pass
+--   Passed           a schedule and a book that refusals 1 to 13 and 17 let pass
 --   Lent Drew        the tables before and behind the passes over the book
 --   Cells Exposed Summed   the table of exposures by group, and the sums that no table holds
 --   LimitsOf RatedAs limits, ranking and figures of a fund that 14 and 15 let pass too

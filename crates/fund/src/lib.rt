@@ -159,7 +159,7 @@ fn refused(why: Refusal) -> Fund
     }
 }
 
-// The fund of a schedule and a book that refusals 1 to 13 let pass, whose counterparties' tables are made.
+// The fund of a schedule and a book that refusals 1 to 13 and 17 let pass, whose counterparties' tables are made.
 pub fn make(
     schedule: &[u8],
     book: &[u8],

@@ -14,10 +14,10 @@ use Rattle.lines.specs.Listing.{shown, allEntries, entriesOf, tried, Sou
 abbrev table : Source
 table =
     record {
-      limits = 250000000 ∷ 250000000 ∷ 500000000 ∷ 500000000 ∷ 425000000 ∷ 825000000 ∷ 1250000000 ∷ 850000000 ∷ 1650000000 ∷ 2500000000 ∷ 2500000000 ∷ 2500000000 ∷ 5000000000 ∷ [];
+      limits = 250000000 ∷ 250000000 ∷ 500000000 ∷ 500000000 ∷ 425000000 ∷ 825000000 ∷ 1250000000 ∷ 850000000 ∷ 1650000000 ∷ 2500000000 ∷ 2500000000 ∷ 2500000000 ∷ 5000000000 ∷ 5000000000 ∷ 3300000000 ∷ 1700000000 ∷ [];
       cells =
-          0 ∷ 0 ∷ 0 ∷ 0 ∷ 0 ∷ 0 ∷ 0 ∷ 0 ∷ 0 ∷ 0 ∷ 0 ∷ 0 ∷ 0 ∷ 7 ∷ 9 ∷ 9 ∷ 9 ∷ 9 ∷ 9 ∷ 9
-          ∷ 300000000 ∷ 0 ∷ 300000000 ∷ 0 ∷ 0 ∷ 0 ∷ 0 ∷ 0 ∷ 0 ∷ 0 ∷ 0 ∷ 0 ∷ 0 ∷ 0 ∷ 9 ∷ 9 ∷ 9 ∷ 9 ∷ 9 ∷ 9 ∷ [];
+          0 ∷ 0 ∷ 0 ∷ 0 ∷ 0 ∷ 0 ∷ 0 ∷ 0 ∷ 0 ∷ 0 ∷ 0 ∷ 0 ∷ 0 ∷ 0 ∷ 0 ∷ 0 ∷ 7 ∷ 9 ∷ 9 ∷ 9 ∷ 9 ∷ 9 ∷ 9
+          ∷ 300000000 ∷ 0 ∷ 300000000 ∷ 0 ∷ 0 ∷ 0 ∷ 0 ∷ 0 ∷ 0 ∷ 0 ∷ 0 ∷ 0 ∷ 0 ∷ 0 ∷ 0 ∷ 0 ∷ 0 ∷ 9 ∷ 9 ∷ 9 ∷ 9 ∷ 9 ∷ 9 ∷ [];
       sets = 0 ∷ 5 ∷ [];
       heads = 1 ∷ 3 ∷ [];
     }
@@ -38,7 +38,7 @@ t2-lines : linesOf (tableFund (table .limits) (table .cells) (table .heads) 4 2 
 unfolding ranks insert ranked next standing left excess sum eachOf countFrom tierSet lineOf cellLines row tableFund
 t2-lines = refl
 
-t2-listed : (entriesOf (table .cells) 2 order ≡ 16 ∷ 18 ∷ []) × (tried (shown (table .cells)) 0 (allEntries 2 order) (1 ∷ 2 ∷ 3 ∷ 4 ∷ []) ≡ 16 ∷ 18 ∷ 28 ∷ 4 ∷ []) × (listedLines table (16 ∷ 18 ∷ 28 ∷ 4 ∷ []) 2 ≡ lines)
+t2-listed : (entriesOf (table .cells) 2 order ≡ 16 ∷ 18 ∷ []) × (tried (shown (table .cells)) 0 (allEntries 2 order) (1 ∷ 2 ∷ 3 ∷ 4 ∷ []) ≡ 16 ∷ 18 ∷ 29 ∷ 4 ∷ []) × (listedLines table (16 ∷ 18 ∷ 29 ∷ 4 ∷ []) 2 ≡ lines)
 unfolding ranks insert ranked next eachOf those countFrom tried entryLine linesAlong
 t2-listed = (refl, refl, refl)
 

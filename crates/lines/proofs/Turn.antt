@@ -25,7 +25,7 @@ above exposures e = 0 <? byTier exposures (tierIn e)
 abbrev pub bitIn : List ℕ → ℕ → ℕ
 bitIn exposures t = if 0 <? byTier exposures t then 2 ^ t else 0
 
-pub set-small : (exposures : List ℕ) → setOf exposures < 8192
+pub set-small : (exposures : List ℕ) → setOf exposures < 65536
 unfolding setOf
 set-small exposures = bits-lt (λ t. 0 <? byTier exposures t) tiers
 
@@ -64,8 +64,8 @@ module _ (exposures ranking : List ℕ) (k : ℕ) (o : Once tiers ranking) (i : 
 
   -- the bit, as the code shifts it
   pub shifted : (some : ℕ) → some ≡ (if 0 <? byTier exposures t then 1 else 0) → some * 2 ^ t % 2 ^ 64 ≡ bitIn exposures t
-  shifted some e = by (0 <? byTier exposures t) e (pow-mono {j = 12} (omega (arith, tier-few)))
+  shifted some e = by (0 <? byTier exposures t) e (pow-mono {j = 15} (omega (arith, tier-few)))
     where
-      by : (b : Bool) → some ≡ (if b then 1 else 0) → 2 ^ t ≤ 4096 → some * 2 ^ t % 2 ^ 64 ≡ (if b then 2 ^ t else 0)
+      by : (b : Bool) → some ≡ (if b then 1 else 0) → 2 ^ t ≤ 32768 → some * 2 ^ t % 2 ^ 64 ≡ (if b then 2 ^ t else 0)
       by true q h = rw q (omega arith)
       by false q h = rw q (omega arith)

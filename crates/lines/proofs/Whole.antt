@@ -9,6 +9,7 @@ use Rattle.words.specs.Words.{sumOf}
 use Rattle.wire.specs.Bytes.{M, placed}
 use Rattle.wire.proofs.Laws.{placed-before}
 use Rattle.cascade.specs.Cascade.{tiers, byTier, byLimit, ranked}
+use Rattle.rows.specs.Rows.{mostGroups}
 use Rattle.cascade.proofs.Ranking.{ranked-only, ranked-lists, length-ranked}
 use Rattle.figures.specs.declared.Head.{Head}
 use Rattle.figures.specs.declared.Line.{Line}
@@ -66,7 +67,7 @@ module _ {S : Source} {list : List ℕ} {groups n : ℕ} (t : Table S list group
         fits = h;
       }
 
-  pub lines-few : n ≤ 6500
+  pub lines-few : n ≤ tiers * mostGroups
   lines-few =
       omega (arith, length-take-le n list (t .long), ap length (t .entries), t .few, entries-few by-rank (ranked-once (S .limits)) (S .cells) groups (length-ranked (byLimit (byTier (S .limits))) tiers))
 

@@ -4,7 +4,7 @@ ghost use Prim.Native.Nat.{_<_, _≤_};
 ghost use Rattle.refusal.specs.Refusals.{numberOf, placeOf};
 ghost use Rattle.refusal.specs.Chain.{refuse_unless_, _andThen_};
 
-// The refusals in the order of their numbers, 1 to 16. Those of a record carry its place, from 1.
+// The refusals in the order of their numbers, 1 to 17. Those of a record carry its place, from 1.
 pub enum Refusal {
     ScheduleLength,
     ScheduleMark,
@@ -22,6 +22,7 @@ pub enum Refusal {
     ReinsuranceValues,
     StressedAssets,
     BufferShort,
+    SpecialistEntry(u16),
 }
 
 // What a section of checks finds.
@@ -38,7 +39,7 @@ pub enum Answer {
 
 // The refusal's number.
 pub fn number(why: Refusal) -> u64
-    ensures { λ r. ⌜ (r ≡ numberOf why) × (r ≤ 16) ⌝ }
+    ensures { λ r. ⌜ (r ≡ numberOf why) × (r ≤ 17) ⌝ }
 {
     match why {
         Refusal::ScheduleLength => 1,
@@ -57,6 +58,7 @@ pub fn number(why: Refusal) -> u64
         Refusal::ReinsuranceValues => 14,
         Refusal::StressedAssets => 15,
         Refusal::BufferShort => 16,
+        Refusal::SpecialistEntry(_) => 17,
     }
 }
 
@@ -81,6 +83,7 @@ pub fn place(why: Refusal) -> u64
         Refusal::ReinsuranceValues => 0,
         Refusal::StressedAssets => 0,
         Refusal::BufferShort => 0,
+        Refusal::SpecialistEntry(p) => p as u64,
     }
 }
 

@@ -24,7 +24,7 @@ use Rattle.exposure.specs.Sums.{exposureOf}
 use Rattle.cascade.specs.Cascade.{tiers, byTier}
 use Rattle.cascade.proofs.Core.{Ordered}
 use Rattle.cascade.proofs.Ranking.{byLimit-ordered}
-use Rattle.rows.specs.Rows.{columns, row, row-at}
+use Rattle.rows.specs.Rows.{mostGroups, columns, row, row-at}
 use Rattle.figures.specs.Fund.{Fund}
 use Rattle.figures.specs.Report.{headSize, lineSize, report}
 use Rattle.figures.specs.LeastCuts.{LeastCuts}
@@ -150,7 +150,7 @@ module _ {b heads : List ℕ} (H : Headed b heads) {groups : ℕ} (eg : groups �
         pub size-is : length (reportOf schedule b) ≡ headSize + lineSize * n
         size-is = ap length (sym report-is) ∙ report-long written ∙ ap (λ (k : ℕ). headSize + lineSize * k) (sym (l .lines (r .limits) heads (C b) (r .figures) heads-are))
 
-        pub lines-few : Accepted b → n ≤ 6500
+        pub lines-few : Accepted b → n ≤ tiers * mostGroups
         lines-few acc = omega (arith, l .few, tops-le b (C b), acc .counterparties)
 
         table : Accepted b → Room groups sets₀ list₀ → length sets ≡ length sets₀ → Table (source (r .limits) cells sets heads) list groups n

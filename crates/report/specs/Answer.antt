@@ -1,6 +1,6 @@
 -- The answer to a schedule, a book and a lent buffer, and what stands in the buffer afterwards.
 --   reportOf    the report's bytes
---   checkOf     the checks 1 to 16
+--   checkOf     the checks 1 to 17
 --   answerOf    a report with its length, or a refusal
 --   Answered    all that the entry promises, demand 3 with it
 use mathlib.Core.List.{List, _++_}
@@ -31,7 +31,7 @@ fundIn schedule book = fundOf (scheduleOf schedule) (bookOf book)
 unfoldable pub reportOf : List ℕ → List ℕ → List ℕ
 reportOf schedule book = report (fundIn schedule book)
 
--- "Checked by rising number": 1 to 4, 5 to 13, 14 and 15, 16 ("buffer shorter than report")
+-- "Checked by rising number", 17 "after 13": 1 to 4, 5 to 13 and 17, 14 and 15, 16 ("buffer shorter than report")
 unfoldable pub checkOf : List ℕ → List ℕ → ℕ → Checked
 checkOf schedule book buffer =
     scheduleCheck schedule

@@ -310,7 +310,7 @@ fn large(schedule: &[u8], book: &[u8], c: usize, report: &mut [u8]) -> Answer
     )
 }
 
-// Refusals 14 to 16, or the report, of a book that refusals 1 to 13 let pass.
+// Refusals 14 to 16, or the report, of a book that refusals 1 to 13 and 17 let pass.
 fn accepted(schedule: &[u8], book: &[u8], report: &mut [u8]) -> Answer
     requires { ⌜ Passed (now schedule) (now book) ⌝ }
     ensures { λ r. ⌜ Answered (now (schedule .entry)) (now (book .entry)) (now (report .entry)) (now (report .exit)) r ⌝ }

@@ -8,7 +8,7 @@ use Rattle.limit.specs.declared.Row.{Row}
 use Rattle.limit.specs.Limit.{greatest, numerator, limitOf}
 use Rattle.schedule.specs.declared.Schedule.{Schedule}
 use Rattle.schedule.specs.Schedule.{published}
-use Rattle.schedule.specs.Tiers.{limits, a3LimitOf}
+use Rattle.schedule.specs.Tiers.{rateAlone, limits, a3LimitOf}
 
 -- a fund, and its limits by tier number and A3 limit
 record Case : Type 0 where
@@ -20,24 +20,41 @@ record Case : Type 0 where
   tiers : List ℕ
   a3 : ℕ
 
--- a row with nothing but its VAF rate
-abbrev only : ℕ → Row
-only rate = record { rate = rate; second = 0; «base_rate» = 0; fixed = 0 }
-
 -- another rate in each row, and percents that are not the published ones
 abbrev uneven : Schedule
 uneven =
     record {
       first = 70;
       second = 30;
-      c = only 110;
-      d = only 130;
-      e = only 170;
-      f = only 190;
-      g = only 230;
-      h = only 290;
-      i = only 310;
-      z = only 370;
+      c = rateAlone 110;
+      d = rateAlone 130;
+      e = rateAlone 170;
+      f = rateAlone 190;
+      g = rateAlone 230;
+      h = rateAlone 290;
+      i = rateAlone 310;
+      z = rateAlone 370;
+    }
+
+-- base rates and fixed amounts that win over every rate, and percents of 0
+abbrev lavish : Schedule
+lavish =
+    let byBase : Row = record { rate = 25; second = 0; «base_rate» = 1500; fixed = 0 } in
+    let byFixed : Row = record { rate = 25; second = 0; «base_rate» = 0; fixed = 2000 } in
+    record { first = 0; second = 0; c = byFixed; d = byFixed; e = byFixed; f = byFixed; g = byBase; h = byBase; i = byBase; z = byBase }
+
+-- nothing but a VAF′, and the limits of tiers 13, 14 and 15
+abbrev small : ℕ → ℕ → ℕ → ℕ → Case
+small vaf′ full first second =
+    let nothing = rateAlone 0 in
+    record {
+      schedule = record { first = 0; second = 0; c = nothing; d = nothing; e = nothing; f = nothing; g = nothing; h = nothing; i = nothing; z = nothing };
+      vaf = 0;
+      vaf′ = vaf′;
+      base = pos 0;
+      w = 0;
+      tiers = 0 ∷ 0 ∷ 0 ∷ 0 ∷ 0 ∷ 0 ∷ 0 ∷ 0 ∷ 0 ∷ 0 ∷ 0 ∷ 0 ∷ 0 ∷ full ∷ first ∷ second ∷ [];
+      a3 = 0;
     }
 
 cases : List Case
@@ -49,7 +66,7 @@ cases =
       vaf′ = 71;
       base = pos 0;
       w = 0;
-      tiers = 0 ∷ 1 ∷ 1 ∷ 3 ∷ 3 ∷ 5 ∷ 8 ∷ 680_000_000 ∷ 1_320_000_000 ∷ 2_000_000_000 ∷ 2_000_000_000 ∷ 2_000_000_000 ∷ 2_000_000_000 ∷ [];
+      tiers = 0 ∷ 1 ∷ 1 ∷ 3 ∷ 3 ∷ 5 ∷ 8 ∷ 680_000_000 ∷ 1_320_000_000 ∷ 2_000_000_000 ∷ 2_000_000_000 ∷ 2_000_000_000 ∷ 2_000_000_000 ∷ 35 ∷ 23 ∷ 12 ∷ [];
       a3 = 8;
     }
     -- T6 "40: 1"
@@ -59,7 +76,7 @@ cases =
       vaf′ = 71;
       base = pos 0;
       w = 0;
-      tiers = 1 ∷ 1 ∷ 2 ∷ 3 ∷ 3 ∷ 5 ∷ 8 ∷ 680_000_000 ∷ 1_320_000_000 ∷ 2_000_000_000 ∷ 2_000_000_000 ∷ 2_000_000_000 ∷ 2_000_000_000 ∷ [];
+      tiers = 1 ∷ 1 ∷ 2 ∷ 3 ∷ 3 ∷ 5 ∷ 8 ∷ 680_000_000 ∷ 1_320_000_000 ∷ 2_000_000_000 ∷ 2_000_000_000 ∷ 2_000_000_000 ∷ 2_000_000_000 ∷ 35 ∷ 23 ∷ 12 ∷ [];
       a3 = 8;
     }
     -- "Published schedule, total 10,000,000,000, base 1,000,000,000"
@@ -71,7 +88,7 @@ cases =
       w = 0;
       tiers =
           250_000_000 ∷ 250_000_000 ∷ 500_000_000 ∷ 500_000_000 ∷ 425_000_000 ∷ 825_000_000 ∷ 1_250_000_000 ∷ 850_000_000 ∷ 1_650_000_000
-          ∷ 2_500_000_000 ∷ 2_500_000_000 ∷ 2_500_000_000 ∷ 5_000_000_000 ∷ [];
+          ∷ 2_500_000_000 ∷ 2_500_000_000 ∷ 2_500_000_000 ∷ 5_000_000_000 ∷ 5_000_000_000 ∷ 3_300_000_000 ∷ 1_700_000_000 ∷ [];
       a3 = 1_250_000_000;
     }
     -- a row, percent or VAF in another's place, or W off another row, gives another figure
@@ -81,9 +98,26 @@ cases =
       vaf′ = 2000;
       base = pos 0;
       w = 100;
-      tiers = 310 ∷ 620 ∷ 290 ∷ 580 ∷ 138 ∷ 322 ∷ 460 ∷ 102 ∷ 238 ∷ 340 ∷ 190 ∷ 110 ∷ 30 ∷ [];
+      tiers = 310 ∷ 620 ∷ 290 ∷ 580 ∷ 138 ∷ 322 ∷ 460 ∷ 102 ∷ 238 ∷ 340 ∷ 190 ∷ 110 ∷ 30 ∷ 1000 ∷ 660 ∷ 340 ∷ [];
       a3 = 740;
     }
+    -- C-11 at VAF′ 71, where every row of the schedule goes by its base or its fixed amount; percents of 0; a VAF and a W that would count
+    ∷ record {
+      schedule = lavish;
+      vaf = 1000;
+      vaf′ = 71;
+      base = pos 1000;
+      w = 71;
+      tiers = 1500 ∷ 1500 ∷ 1500 ∷ 1500 ∷ 0 ∷ 0 ∷ 1500 ∷ 0 ∷ 0 ∷ 2000 ∷ 2000 ∷ 2000 ∷ 2000 ∷ 35 ∷ 23 ∷ 12 ∷ [];
+      a3 = 1500;
+    }
+    -- one of VAF′ less and one more at each: 1, 2; 3, 4; 5, 6
+    ∷ small 1 0 0 0
+    ∷ small 2 1 0 0
+    ∷ small 3 1 0 0
+    ∷ small 4 2 1 0
+    ∷ small 5 2 1 0
+    ∷ small 6 3 1 1
     ∷ []
 
 Right : Case → Type 0
@@ -91,4 +125,5 @@ Right c = (limits (c .schedule) (c .vaf) (c .vaf′) (c .base) (c .w) ≡ c .tie
 
 limits-right : All Right cases
 unfolding Right cases limits a3LimitOf limitOf numerator greatest
-limits-right = ((refl, refl), ((refl, refl), ((refl, refl), ((refl, refl), tt))))
+limits-right =
+    ((refl, refl), ((refl, refl), ((refl, refl), ((refl, refl), ((refl, refl), ((refl, refl), ((refl, refl), ((refl, refl), ((refl, refl), ((refl, refl), ((refl, refl), tt)))))))))))

@@ -1,4 +1,4 @@
--- How many limits there are, and what each is at most, under a schedule that fits: limits-length, limits-le, a3-limit-le.
+-- How many limits there are, and what each is at most, under a schedule that fits: alone-fits, limits-length, limits-le, a3-limit-le.
 use mathlib.Core.Path.{_≡_, refl}
 use Prim.Native.Nat.{ℕ, _≤_}
 use native.Mathlib.Omega.{arith}
@@ -8,16 +8,19 @@ use Rattle.words.specs.Words.{All}
 use Rattle.words.specs.Sums.{all-at}
 use Rattle.wire.specs.Bytes.{M}
 use Rattle.limit.specs.Limit.{counted}
-use Rattle.limit.specs.Bounds.{mostLimit}
+use Rattle.limit.specs.Bounds.{mostRate, mostLimit, RowFits}
 use Rattle.limit.specs.BoundLaws.{limit-le}
 use Rattle.cascade.specs.Cascade.{tiers}
 use Rattle.schedule.specs.declared.Schedule.{Schedule}
-use Rattle.schedule.specs.Tiers.{limits, a3LimitOf}
+use Rattle.schedule.specs.Tiers.{rateAlone, limits, a3LimitOf}
 use Rattle.schedule.specs.Fits.{RatesFit}
 
 infixr 10 _and_
 _and_ : {A B : Type 0} → A → B → A × B
 _and_ a b = (a, b)
+
+pub alone-fits : {rate : ℕ} → rate ≤ mostRate → RowFits (rateAlone rate)
+alone-fits h = record { rate = h; second = omega arith; base = omega arith; fixed = omega arith }
 
 pub limits-length : (S : Schedule) (vaf vaf′ : ℕ) (base : ℤ) (w : ℕ) → length (limits S vaf vaf′ base w) ≡ tiers
 unfolding limits
@@ -40,6 +43,9 @@ module _ (S : Schedule) (vaf vaf′ : ℕ) (base : ℤ) (w : ℕ) (h : RatesFit 
       and limit-le _ _ _ _ _ (h .f) (omega arith) (omega arith) b
       and limit-le _ _ _ _ _ (h .c) (omega arith) (omega arith) b
       and limit-le _ _ _ _ _ (h .d) (omega arith) (omega arith) b
+      and limit-le _ _ _ _ _ (alone-fits (omega arith)) (omega arith) (omega arith) b
+      and limit-le _ _ _ _ _ (alone-fits (omega arith)) (omega arith) (omega arith) b
+      and limit-le _ _ _ _ _ (alone-fits (omega arith)) (omega arith) (omega arith) b
       and tt
 
   pub limits-le : (t : ℕ) → getD (limits S vaf vaf′ base w) t 0 ≤ mostLimit

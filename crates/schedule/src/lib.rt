@@ -103,6 +103,28 @@ const ROWS: [Row; ROW_COUNT] = [
     },
 ];
 
+// The rows of tiers 13, 14 and 15 (P46), of no schedule: rates alone.
+const RETROCESSION: [Row; 3] = [
+    Row {
+        rate: 500,
+        second: 0,
+        base_rate: 0,
+        fixed: 0,
+    },
+    Row {
+        rate: 330,
+        second: 0,
+        base_rate: 0,
+        fixed: 0,
+    },
+    Row {
+        rate: 170,
+        second: 0,
+        base_rate: 0,
+        fixed: 0,
+    },
+];
+
 // A rate or percent: a u16.
 fn rate_at(s: &[u8], at: usize) -> u64
     requires { ⌜ at + 2 ≤ length (now s) ⌝ }
@@ -197,7 +219,7 @@ pub fn check(s: &[u8]) -> Checked
     check_fields(s)
 }
 
-// The thirteen limits of a fund, by tier number; `stressed` is VAF′.
+// The sixteen limits of a fund, by tier number; `stressed` is VAF′.
 pub fn limits(s: Schedule, vaf: u64, stressed: u64, base: i64, w: u64) -> [u64; cascade::TIERS]
     requires { ⌜ RatesFit s ⌝ }
     requires { ⌜ (vaf ≤ M) × (stressed ≤ M) × (counted base ≤ M) ⌝ }
@@ -217,6 +239,9 @@ pub fn limits(s: Schedule, vaf: u64, stressed: u64, base: i64, w: u64) -> [u64; 
         limit::limit(s.f, 100, vaf, base, 0),
         limit::limit(s.c, 100, vaf, base, 0),
         limit::limit(s.d, 100, vaf, base, w),
+        limit::limit(RETROCESSION[0], 100, stressed, base, 0),
+        limit::limit(RETROCESSION[1], 100, stressed, base, 0),
+        limit::limit(RETROCESSION[2], 100, stressed, base, 0),
     ]
 }
 

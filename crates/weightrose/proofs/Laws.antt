@@ -11,7 +11,7 @@ use Rattle.refusal.specs.declared.Answer.{Answer}
 use Rattle.refusal.specs.declared.Checked.{Checked}
 use Rattle.refusal.specs.declared.Checked.the-variants.{Fine, Bad}
 use Rattle.refusal.specs.declared.Refusal.{Refusal}
-use Rattle.refusal.specs.declared.Refusal.the-variants.{ScheduleLength, ScheduleMark, ScheduleVersion, ScheduleRates, BookLength, BookMark, BookVersion, BookCounts, BookAmounts, Counterparty, Asset, Mitigant, MitigantCounts, ReinsuranceValues, StressedAssets, BufferShort}
+use Rattle.refusal.specs.declared.Refusal.the-variants.{ScheduleLength, ScheduleMark, ScheduleVersion, ScheduleRates, BookLength, BookMark, BookVersion, BookCounts, BookAmounts, Counterparty, Asset, Mitigant, MitigantCounts, ReinsuranceValues, StressedAssets, BufferShort, SpecialistEntry}
 use Rattle.refusal.specs.Refusals.{numberOf}
 use Rattle.refusal.specs.Chain.{refuse_unless_, _andThen_, answerBy}
 use Rattle.refusal.specs.Laws.{then-first, then-rest}
@@ -45,8 +45,9 @@ numbered MitigantCounts = omega arith
 numbered ReinsuranceValues = omega arith
 numbered StressedAssets = omega arith
 numbered BufferShort = omega arith
+numbered (SpecialistEntry p) = omega arith
 
--- a report of a book that the checks let pass has at most 500 groups of 13 lines
+-- a report of a book that the checks let pass has at most 500 groups of 16 lines
 few : (schedule book : List ℕ) → bookCheck book ≡ Fine → length (reportOf schedule book) < 4294967296
 unfolding reportOf fundIn fundOf bookOf
 few schedule book e =

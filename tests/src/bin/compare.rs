@@ -1,6 +1,6 @@
 //! Compares the library with the second implementation and prints what it met.
 //!
-//!     compare [--inputs N] [--seed S]            N inputs (40,000 unless said) under the seed S
+//!     compare [--inputs N] [--seed S]            N inputs (55,000 unless said) under the seed S
 //!     compare --only I [--seed S] [--dump FILE]  input I alone; FILE gets its schedule and book
 //!
 //! Ends with status 1 on the first difference, or where a refusal or a tier was not met at all.
@@ -8,11 +8,11 @@
 use std::process::ExitCode;
 use std::time::Instant;
 use weightrose_tests::compare::{compare, library, second, Outcome, GUARD};
-use weightrose_tests::inputs::Inputs;
+use weightrose_tests::inputs::{Input, Inputs};
 use weightrose_tests::weightrose::{Answer, HEADER, LINE};
 
-const REFUSALS: usize = 16;
-const TIERS: usize = 13;
+const REFUSALS: usize = 17;
+const TIERS: usize = 16;
 const TIER_NAMES: [&str; TIERS] = [
     "i",
     "i reinsurance",
@@ -27,6 +27,9 @@ const TIER_NAMES: [&str; TIERS] = [
     "f",
     "c",
     "d",
+    "retrocession",
+    "retrocession first",
+    "retrocession second",
 ];
 
 struct Options {
@@ -37,7 +40,7 @@ struct Options {
 }
 
 fn options() -> Result<Options, String> {
-    let mut options = Options { inputs: 40_000, seed: 20_230_701, only: None, dump: None };
+    let mut options = Options { inputs: 55_000, seed: 20_230_701, only: None, dump: None };
     let mut words = std::env::args().skip(1);
     while let Some(word) = words.next() {
         let value = words.next().ok_or(format!("{word} needs a value"))?;
@@ -56,13 +59,15 @@ fn options() -> Result<Options, String> {
 /// What the inputs met.
 #[derive(Default)]
 struct Met {
+    specialist_funds: u64,
     reports: u64,
     refusals: [u64; REFUSALS],
     lines: [u64; TIERS],
 }
 
 impl Met {
-    fn count(&mut self, outcome: &Outcome) {
+    fn count(&mut self, input: &Input, outcome: &Outcome) {
+        self.specialist_funds += u64::from(input.book.get(12) == Some(&1));
         match Answer::unpacked(outcome.answer) {
             Some(Answer::Refused(refusal)) => self.refusals[refusal.number() as usize - 1] += 1,
             Some(Answer::Report(length)) => {
@@ -75,6 +80,7 @@ impl Met {
     }
 
     fn print(&self) {
+        println!("books of specialist funds {}", self.specialist_funds);
         println!("reports {}", self.reports);
         for (number, count) in (1..).zip(self.refusals) {
             println!("refusal {number:2} {count:9}");
@@ -105,7 +111,7 @@ fn run(inputs: &Inputs, options: &Options) -> Result<Met, String> {
             let seed = options.seed;
             format!("input {number} ({}, --seed {seed} --only {number}): {difference}", input.name)
         })?;
-        met.count(&outcome);
+        met.count(&input, &outcome);
     }
     Ok(met)
 }

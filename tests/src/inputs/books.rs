@@ -24,7 +24,14 @@ pub enum Parents {
 pub fn random(random: &mut Random) -> (RawSchedule, RawBook) {
     let shape = random_shape(random);
     let scale = random_scale(random, &shape);
-    (random_schedule(random, scale), random_book(random, &shape, scale))
+    let schedule = random_schedule(random, scale);
+    let mut book = random_book(random, &shape, scale);
+    book.specialist = random.chance(33) as u8;
+    // Now and then in a fund that is no specialist, which 17 turns back.
+    if book.specialist == 1 || random.chance(5) {
+        retrocede(random, 50, &mut book);
+    }
+    (schedule, book)
 }
 
 fn random_shape(random: &mut Random) -> Shape {
@@ -84,7 +91,7 @@ fn random_row(random: &mut Random, scale: u64) -> RawRow {
 }
 
 /// An amount of about a scale, often one at a boundary, seldom M.
-fn amount(random: &mut Random, scale: u64) -> u64 {
+pub fn amount(random: &mut Random, scale: u64) -> u64 {
     let amount = match random.below(100) {
         0..=7 => 0,
         8..=11 => 1,
@@ -98,7 +105,7 @@ fn amount(random: &mut Random, scale: u64) -> u64 {
     amount.min(MOST)
 }
 
-fn random_book(random: &mut Random, shape: &Shape, scale: u64) -> RawBook {
+pub fn random_book(random: &mut Random, shape: &Shape, scale: u64) -> RawBook {
     let mut book = RawBook::empty(0, 0, 0);
     book.counterparties = random_counterparties(random, shape);
     book.assets = (0..shape.assets).map(|_| random_asset(random, shape, scale)).collect();
@@ -140,9 +147,14 @@ fn random_asset(random: &mut Random, shape: &Shape, scale: u64) -> RawAsset {
     }
 }
 
-fn reinsurance(random: &mut Random, asset: RawAsset, scale: u64) -> RawAsset {
+/// Months on both sides of each step after a downgrade, and any other.
+fn deciding_months(random: &mut Random) -> [u8; 11] {
+    [0, 1, 2, 3, 4, 11, 12, 23, 24, 255, random.below(30) as u8]
+}
+
+pub fn reinsurance(random: &mut Random, asset: RawAsset, scale: u64) -> RawAsset {
     let entry = random.below(3) as u8;
-    let months = [0, 1, 2, 3, 4, 11, 12, 23, 24, 255, random.below(30) as u8];
+    let months = deciding_months(random);
     let value = asset.value.min(scale + 1);
     RawAsset {
         kind: 9,
@@ -154,6 +166,16 @@ fn reinsurance(random: &mut Random, asset: RawAsset, scale: u64) -> RawAsset {
         insurance_stress: amount(random, scale).min(scale + 1),
         combination_stress: amount(random, scale).min(scale + 1),
         ..asset
+    }
+}
+
+/// Makes so many in a hundred of the reinsurance assets retrocessions.
+pub fn retrocede(random: &mut Random, percent: u64, book: &mut RawBook) {
+    for asset in book.assets.iter_mut().filter(|asset| asset.kind == 9) {
+        if random.chance(percent) {
+            let months = deciding_months(random);
+            (asset.entry, asset.months) = (3, random.pick(&months));
+        }
     }
 }
 
@@ -174,7 +196,7 @@ fn add_mitigants(random: &mut Random, shape: &Shape, scale: u64, book: &mut RawB
 }
 
 /// Total, base and excluded, such that 14 and 15 mostly accept them.
-fn set_totals(random: &mut Random, scale: u64, book: &mut RawBook) {
+pub fn set_totals(random: &mut Random, scale: u64, book: &mut RawBook) {
     let reinsurance = || book.assets.iter().filter(|asset| asset.kind == 9);
     let values: u64 = reinsurance().map(|asset| asset.value).sum();
     let room = MOST.saturating_sub(values);

@@ -39,12 +39,14 @@ fn tiers() -> Vec<Input> {
     kinds.into_iter().map(book).collect()
 }
 
-/// Reinsurance with each entry, each month that decides and each sort of counterparty.
+/// Reinsurance with each entry, each month that decides and each sort of counterparty, in a
+/// specialist fund and in another (where 17 turns entry 3 back).
 fn reinsurance_tiers() -> Vec<Input> {
     let months = [0, 1, 2, 3, 4, 10, 11, 12, 13, 22, 23, 24, 25, 254, 255];
-    let entries = [1, 2].into_iter().flat_map(|entry| months.map(|month| (entry, month)));
-    let book = |(entry, months)| {
+    let entries = [1, 2, 3].into_iter().flat_map(|entry| months.map(|month| (entry, month)));
+    let book = |specialist, entry, months| {
         let mut book = book_of_sorts();
+        book.specialist = specialist;
         for counterparty in 1..=320 {
             let combination_stress = 100 + u64::from(counterparty);
             let asset = RawAsset {
@@ -59,69 +61,83 @@ fn reinsurance_tiers() -> Vec<Input> {
         }
         Input::new("reinsurance tiers", &small_fixed(), &book)
     };
-    [(0, 0)].into_iter().chain(entries).map(book).collect()
+    let entries = [(0, 0)].into_iter().chain(entries);
+    entries.flat_map(|(entry, months)| [0, 1].map(|fund| book(fund, entry, months))).collect()
 }
 
-/// Each form with each set of flags and each sort of counterparty, on a loan and on reinsurance.
+/// What mitigants cover: a loan, reinsurance, or a retrocession of a specialist fund.
+#[derive(Clone, Copy, PartialEq, Eq)]
+enum Covered {
+    Loan,
+    Reinsurance,
+    Retrocession,
+}
+
+impl Covered {
+    const ALL: [Covered; 3] = [Covered::Loan, Covered::Reinsurance, Covered::Retrocession];
+
+    fn book(self) -> RawBook {
+        RawBook { specialist: u8::from(self == Covered::Retrocession), ..book_of_sorts() }
+    }
+
+    fn asset(self, counterparty: u16, amount: u64) -> RawAsset {
+        let loan = RawAsset { kind: 7, counterparty, value: amount, ..Default::default() };
+        let reinsurance = RawAsset { kind: 9, value: 0, combination_stress: amount, ..loan };
+        match self {
+            Covered::Loan => loan,
+            Covered::Reinsurance => reinsurance,
+            Covered::Retrocession => RawAsset { entry: 3, ..reinsurance },
+        }
+    }
+}
+
+/// Each form with each set of flags and each sort of counterparty, on each of these.
 fn recognitions() -> Vec<Input> {
     let mut inputs = Vec::new();
     for form in 1..=5 {
         for flags in 0..32 {
-            for kind in [7, 9] {
-                inputs.push(Input::new(
-                    "recognitions",
-                    &small_fixed(),
-                    &mitigated(form, flags, kind),
-                ));
+            for covered in Covered::ALL {
+                let book = mitigated(form, flags, covered);
+                inputs.push(Input::new("recognitions", &small_fixed(), &book));
             }
         }
     }
     inputs
 }
 
-fn mitigated(form: u8, flags: u8, kind: u8) -> RawBook {
-    let mut book = book_of_sorts();
+fn mitigated(form: u8, flags: u8, covered: Covered) -> RawBook {
+    let mut book = covered.book();
     let borrower = book.counterparty(RawCounterparty { kind: 4, grade: 5, ..Default::default() });
     for counterparty in 1..=320 {
         let amount = 100 + u64::from(counterparty);
-        let (value, combination_stress) = if kind == 9 { (0, amount) } else { (amount, 0) };
-        let asset = RawAsset {
-            kind,
-            counterparty: borrower,
-            value,
-            combination_stress,
-            ..Default::default()
-        };
-        book.asset(asset, &[RawMitigant { form, flags, counterparty, value: amount - 60 }]);
+        let mitigant = RawMitigant { form, flags, counterparty, value: amount - 60 };
+        book.asset(covered.asset(borrower, amount), &[mitigant]);
     }
     book
 }
 
-/// How much of a loan and of reinsurance may be covered, for each sort of counterparty, with nets
-/// of 100 and 101 and two good mitigants.
+/// How much of each may be covered, for each sort of counterparty, with nets of 100 and 101 and two
+/// good mitigants.
 fn caps() -> Vec<Input> {
     let mut inputs = Vec::new();
-    for kind in [7, 9] {
+    for covered in Covered::ALL {
         for net in [0, 1, 100, 101] {
             for values in [[net, net], [30, 30], [70, 0], [0, 70]] {
-                inputs.push(Input::new("caps", &small_fixed(), &capped(kind, net, values)));
+                inputs.push(Input::new("caps", &small_fixed(), &capped(covered, net, values)));
             }
         }
     }
     inputs
 }
 
-fn capped(kind: u8, net: u64, values: [u64; 2]) -> RawBook {
-    let mut book = book_of_sorts();
+fn capped(covered: Covered, net: u64, values: [u64; 2]) -> RawBook {
+    let mut book = covered.book();
     let bank = book.counterparty(RawCounterparty { kind: 1, grade: 1, ..Default::default() });
     let home = book.counterparty(RawCounterparty { kind: 2, grade: 1, ..Default::default() });
     for counterparty in 1..=320 {
-        let (value, combination_stress) = if kind == 9 { (0, net) } else { (net, 0) };
-        let asset =
-            RawAsset { kind, counterparty, value, combination_stress, ..Default::default() };
         let cash = RawMitigant { form: 1, flags: 31, counterparty: bank, value: values[0] };
         let security = RawMitigant { form: 2, flags: 31, counterparty: home, value: values[1] };
-        book.asset(asset, &[cash, security]);
+        book.asset(covered.asset(counterparty, net), &[cash, security]);
     }
     book
 }

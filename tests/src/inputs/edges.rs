@@ -55,6 +55,9 @@ pub fn all() -> Vec<Input> {
         asset_reinsurance(),
         mitigants(),
         mitigant_counts(),
+        specialist_bytes(),
+        specialist_entries(),
+        refusals_12_to_17(),
         reinsurance_values(),
         stressed_assets(),
         rooms(),
@@ -141,6 +144,9 @@ fn book_bytes() -> Vec<Input> {
     for byte in 0..=255 {
         for place in 0..4 {
             inputs.push(book_with("book mark", |book| book.mark[place] = byte));
+        }
+        inputs.push(book_with("specialist", |book| book.specialist = byte));
+        for place in 0..3 {
             inputs.push(book_with("book zeros", |book| book.zeros[place] = byte));
         }
     }
@@ -261,11 +267,13 @@ fn asset_numbers() -> Vec<Input> {
     inputs
 }
 
-/// What only reinsurance may have, and what months and offsets need.
+/// What only reinsurance may have, and what months and offsets need, in a specialist fund and in
+/// another.
 fn asset_reinsurance() -> Vec<Input> {
     let mut inputs = Vec::new();
-    for kind in 1..=11 {
+    for (kind, specialist) in (1..=11).flat_map(|kind| [(kind, 0), (kind, 1)]) {
         let plain = move |book: &mut RawBook| {
+            book.specialist = specialist;
             let asset = RawAsset {
                 kind,
                 counterparty: 1,
@@ -286,6 +294,9 @@ fn asset_reinsurance() -> Vec<Input> {
         inputs.push(with(|asset| asset.entry = 1));
         inputs.push(with(|asset| asset.months = 1));
         inputs.push(with(|asset| (asset.entry, asset.months) = (2, 255)));
+        inputs.push(with(|asset| asset.entry = 3));
+        inputs.push(with(|asset| (asset.entry, asset.months) = (3, 255)));
+        inputs.push(with(|asset| asset.entry = 4));
         inputs.push(with(|asset| asset.insurance_stress = 1));
         inputs.push(with(|asset| asset.combination_stress = 1));
         inputs.push(with(|asset| asset.offsets = 1_000));
@@ -343,6 +354,86 @@ fn mitigant_counts() -> Vec<Input> {
     book.mitigants.push(RawMitigant { form: 1, flags: 0, counterparty: 1, value: 0 });
     inputs.push(Input::new("mitigant counts", &RawSchedule::published(), &book));
     inputs
+}
+
+/// The bytes around byte 12, and those of an asset's entry and months, in a specialist fund with a
+/// retrocession, ungraded and graded.
+fn specialist_bytes() -> Vec<Input> {
+    let mut inputs = Vec::new();
+    for grade in [4, 3] {
+        let with = |name, change: &dyn Fn(&mut RawBook)| {
+            book_with(name, |book| {
+                book.specialist = 1;
+                book.counterparties[2].grade = grade;
+                book.assets[0].entry = 3;
+                change(book);
+            })
+        };
+        for byte in 0..=255 {
+            inputs.push(with("specialist", &|book| book.specialist = byte));
+            inputs.push(with("specialist zeros", &|book| book.zeros[usize::from(byte) % 3] = byte));
+            inputs.push(with("specialist entry", &|book| book.assets[0].entry = byte));
+            inputs.push(with("specialist months", &|book| book.assets[0].months = byte));
+        }
+    }
+    inputs
+}
+
+/// Entry 3 at each set of four places, and at some of 900, linked and not, in a specialist fund and
+/// in another (17).
+fn specialist_entries() -> Vec<Input> {
+    let input = |specialist, flags, count: u16, retroceded: &dyn Fn(u16) -> bool| {
+        let mut book = RawBook { specialist, ..RawBook::empty(MOST, 0, 0) };
+        let counterparty = book.counterparty(RawCounterparty::default());
+        for place in 1..=count {
+            let asset = RawAsset {
+                kind: 9,
+                flags,
+                entry: if retroceded(place) { 3 } else { (place % 3) as u8 },
+                counterparty,
+                value: 1,
+                combination_stress: 1,
+                ..Default::default()
+            };
+            book.asset(asset, &[]);
+        }
+        Input::new("specialist entries", &RawSchedule::published(), &book)
+    };
+    let mut inputs = Vec::new();
+    for (specialist, linked) in [(0, 0), (0, 1), (1, 0), (1, 1)] {
+        for set in 0..16u16 {
+            inputs.push(input(specialist, linked, 4, &|place| set >> (place - 1) & 1 == 1));
+        }
+        for first in [1, 255, 256, 257, 899, 900] {
+            inputs.push(input(specialist, linked, 900, &|place| place >= first));
+            inputs.push(input(specialist, linked, 900, &|place| place == first));
+        }
+    }
+    inputs
+}
+
+/// Each set of refusals 12 to 17 at once, checked in the order 12, 13, 17, 14, 15, 16.
+fn refusals_12_to_17() -> Vec<Input> {
+    let with = |faults: [bool; 6]| {
+        let [mitigant, counts, entry, values, stressed, buffer] = faults;
+        let mut input = book_with("refusals 12 to 17", |book| {
+            book.specialist = u8::from(!entry);
+            book.assets[0].entry = 3;
+            book.mitigants[4].form += 4 * u8::from(mitigant);
+            book.assets[3].mitigants += u16::from(counts);
+            if values {
+                book.total = 999;
+            }
+            if stressed {
+                book.excluded = MOST;
+            }
+        });
+        if buffer {
+            input.room = Room::Bytes(71);
+        }
+        input
+    };
+    (0..64).map(|set| with(std::array::from_fn(|bit| set >> bit & 1 == 1))).collect()
 }
 
 /// Two reinsurance assets with these values and combination stresses, of a total.

@@ -8,8 +8,13 @@ const ASSETS: usize = 900;
 const MITIGANTS: usize = 1_500;
 
 pub fn all() -> Vec<Input> {
-    let parts =
-        [largest_reports(), largest_exposures(), largest_reinsurance(), counts_and_chains()];
+    let parts = [
+        largest_reports(),
+        largest_groups(),
+        largest_exposures(),
+        largest_reinsurance(),
+        counts_and_chains(),
+    ];
     parts.into_iter().flatten().collect()
 }
 
@@ -55,10 +60,83 @@ pub fn largest_report_book() -> RawBook {
     book
 }
 
+/// The same of a specialist fund: in place of tier 0 each bank has 13 (a retrocession, of whatever
+/// months, since the banks are graded).
+pub fn largest_specialist_book() -> RawBook {
+    let mut book = largest_report_book();
+    book.specialist = 1;
+    for (number, asset) in book.assets[..usize::from(COUNTERPARTIES)].iter_mut().enumerate() {
+        let (months, combination_stress) = (number as u8, asset.value);
+        *asset = RawAsset { kind: 9, entry: 3, months, combination_stress, ..*asset };
+    }
+    book
+}
+
 fn largest_reports() -> Vec<Input> {
-    let rooms = [-40, -1, 0, 1];
-    let input = || Input::new("largest report", &RawSchedule::published(), &largest_report_book());
-    rooms.map(|more| Input { room: Room::Beside(more), ..input() }).into()
+    let under = |book: RawBook| {
+        let input = Input::new("largest report", &RawSchedule::published(), &book);
+        [-40, -1, 0, 1].map(|more| Input { room: Room::Beside(more), ..input.clone() })
+    };
+    [largest_report_book(), largest_specialist_book()].into_iter().flat_map(under).collect()
+}
+
+/// A specialist fund of so many groups, each with an exposure of the amount in each of the sixteen
+/// tiers: twelve are its assets', four those of the mitigants of one of them. VAF and VAF′ are
+/// `vaf`.
+pub fn sixteen_tiers(groups: u16, amount: u64, vaf: u64) -> RawBook {
+    let reinsurance = 11 * u64::from(groups) * amount;
+    let mut book = RawBook { specialist: 1, ..RawBook::empty(vaf, 0, reinsurance) };
+    for _ in 0..groups {
+        let bank = book.counterparty(bank());
+        let child = RawCounterparty { parent: bank, ..Default::default() };
+        let ungraded = book.counterparty(child);
+        let registered = book.counterparty(RawCounterparty { kind: 4, grade: 1, ..child });
+
+        let of = |counterparty, entry, months| RawAsset {
+            kind: 9,
+            entry,
+            months,
+            counterparty,
+            combination_stress: amount,
+            ..Default::default()
+        };
+        // Tiers 3 and 1, then 9, 8 and 7, 6, 5 and 4, 13, 14 and 15.
+        book.asset(of(bank, 0, 0), &[]);
+        book.asset(of(ungraded, 0, 0), &[]);
+        for (entry, months) in
+            [1, 2, 3].into_iter().flat_map(|entry| [0, 3, 12].map(|m| (entry, m)))
+        {
+            book.asset(of(ungraded, entry, months), &[]);
+        }
+        // Tier 10, and by cash, guarantee, debt and a security 12, 11, 2 and 0.
+        let premiums = RawAsset {
+            kind: 10,
+            counterparty: registered,
+            value: 5 * amount,
+            ..Default::default()
+        };
+        let parts = [(1, bank), (4, bank), (3, bank), (2, ungraded)];
+        let mitigants = parts.map(|(form, counterparty)| RawMitigant {
+            form,
+            flags: 31,
+            counterparty,
+            value: amount,
+        });
+        book.asset(premiums, &mitigants);
+    }
+    book
+}
+
+/// All sixteen tiers in one group, and in as many as 900 assets make.
+fn largest_groups() -> Vec<Input> {
+    let books = [
+        sixteen_tiers(1, 1, 1_000),
+        sixteen_tiers(1, MOST / 11, MOST),
+        sixteen_tiers(75, 1, MOST),
+        sixteen_tiers(75, MOST / 825, MOST),
+        sixteen_tiers(75, MOST / 825, 0),
+    ];
+    under_all_schedules("largest groups", &books)
 }
 
 /// 900 assets of M with one bank: exposures, W and excess of 9,000 M, at bases of M and -M.
@@ -85,7 +163,9 @@ fn largest_reinsurance() -> Vec<Input> {
     let share = MOST / ASSETS as u64;
     let book = |total, asset: RawAsset| {
         let mut book = RawBook::empty(total, MOST as i64, 0);
-        book.counterparty(RawCounterparty { grade: 1, ..Default::default() });
+        book.specialist = u8::from(asset.entry == 3);
+        let grade = u8::from(asset.months == 0);
+        book.counterparty(RawCounterparty { grade, ..Default::default() });
         (0..ASSETS).for_each(|_| book.asset(RawAsset { kind: 9, counterparty: 1, ..asset }, &[]));
         book
     };
@@ -100,6 +180,10 @@ fn largest_reinsurance() -> Vec<Input> {
         book(0, RawAsset { combination_stress: MOST, ..none }),
         book(0, RawAsset { flags: 2, insurance_stress: MOST, ..none }),
         book(MOST, RawAsset { deductions: MOST, combination_stress: MOST, ..none }),
+        book(MOST, RawAsset { entry: 3, value: share, combination_stress: share, ..none }),
+        book(0, RawAsset { entry: 3, months: 3, combination_stress: share, ..none }),
+        book(0, RawAsset { entry: 3, months: 12, combination_stress: share, ..none }),
+        book(0, RawAsset { entry: 3, months: 24, combination_stress: share, ..none }),
     ];
     under_all_schedules("largest reinsurance", &books)
 }

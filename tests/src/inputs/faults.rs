@@ -4,7 +4,7 @@ use super::Input;
 use crate::random::Random;
 use crate::raw::*;
 
-/// One to four fields set to what document 01 refuses, or to what stands beside it.
+/// One to four fields set to what the documents refuse, or to what stands beside it.
 pub fn spoiled(random: &mut Random, mut schedule: RawSchedule, mut book: RawBook) -> Input {
     for _ in 0..random.between(1, 4) {
         match random.below(20) {
@@ -36,13 +36,14 @@ fn spoil_schedule(random: &mut Random, schedule: &mut RawSchedule) {
 
 fn spoil_header(random: &mut Random, book: &mut RawBook) {
     let most = MOST as i64;
-    match random.below(7) {
+    match random.below(8) {
         0 => book.mark[random.index(4)] ^= 1 << random.below(8),
         1 => book.version = random.below(3) as u16,
-        2 => book.zeros[random.index(4)] = random.below(3) as u8,
-        3 => book.total = bad_amount(random),
-        4 => book.base = random.pick(&[most, most + 1, -most, -most - 1, i64::MIN, i64::MAX]),
-        5 => book.excluded = bad_amount(random),
+        2 => book.zeros[random.index(3)] = random.below(3) as u8,
+        3 => book.specialist = random.pick(&[0, 1, 2, 255]),
+        4 => book.total = bad_amount(random),
+        5 => book.base = random.pick(&[most, most + 1, -most, -most - 1, i64::MIN, i64::MAX]),
+        6 => book.excluded = bad_amount(random),
         _ => book.total = random.below(book.total.saturating_add(1)),
     }
 }
@@ -71,7 +72,7 @@ fn spoil_asset(random: &mut Random, book: &mut RawBook) {
     match random.below(11) {
         0 => asset.kind = random.pick(&[0, 1, 9, 11, 12, 255]),
         1 => asset.flags |= 1 << random.below(8),
-        2 => asset.entry = random.below(4) as u8,
+        2 => asset.entry = random.below(5) as u8,
         3 => asset.months = random.pick(&[0, 1, 255]),
         4 => asset.counterparty = random.pick(&[0, 1, last, last + 1]) as u16,
         5 => asset.value = bad_amount(random),

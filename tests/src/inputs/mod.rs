@@ -1,17 +1,19 @@
-//! What library and second implementation are compared on: first every boundary, the largest books
-//! and every combination of a list (`edges`, `extremes`, `combinations`), then seeded books
-//! (`books`), some of them with faults or damage (`faults`). An input's number and the seed make it
-//! again.
+//! What library and second implementation are compared on: first every boundary, the largest books,
+//! every combination of a list and the limits of specialist funds (`edges`, `extremes`,
+//! `combinations`, `specialist`), then seeded books of any fund (`books`) and, every fifth, of a
+//! specialist one (`specialist`), some of them with faults or damage (`faults`). An input's number
+//! and the seed make it again.
 
 mod books;
 mod combinations;
 mod edges;
 mod extremes;
 mod faults;
+mod specialist;
 
 pub use books::{lifelike, Parents, Shape};
 pub use edges::sample;
-pub use extremes::largest_report_book;
+pub use extremes::{largest_report_book, largest_specialist_book, sixteen_tiers};
 
 use crate::random::Random;
 use crate::raw::{RawBook, RawSchedule};
@@ -50,6 +52,7 @@ impl Inputs {
         let mut fixed = edges::all();
         fixed.extend(extremes::all());
         fixed.extend(combinations::all());
+        fixed.extend(specialist::all());
         Inputs { seed, fixed }
     }
 
@@ -61,13 +64,14 @@ impl Inputs {
     pub fn get(&self, number: usize) -> Input {
         match self.fixed.get(number) {
             Some(input) => input.clone(),
-            None => seeded(&mut Random::new(self.seed, number as u64)),
+            None => seeded(&mut Random::new(self.seed, number as u64), number % 5 == 4),
         }
     }
 }
 
-fn seeded(random: &mut Random) -> Input {
-    let (schedule, book) = books::random(random);
+fn seeded(random: &mut Random, specialist: bool) -> Input {
+    let family = if specialist { specialist::random } else { books::random };
+    let (schedule, book) = family(random);
     let mut input = match random.below(100) {
         0..=59 => Input::new("valid", &schedule, &book),
         60..=79 => faults::spoiled(random, schedule, book),

@@ -62,7 +62,7 @@ impl Sums {
         }
         let share = self.groups.entry(top).or_default().entry(tier).or_default();
         share.exposure += exposure.amount;
-        if rules.counts_in_a3(tier, counterparty) {
+        if rules.counts_in_a3(tier, exposure, counterparty) {
             share.a3_together += exposure.amount;
         }
     }
@@ -82,7 +82,7 @@ pub fn lines<R: Rules>(
     let mut lines = Vec::new();
     for (&tier, share) in ranked {
         let limit = limits[&tier];
-        let left = rules.left(limit, standing);
+        let left = rules.left(tier, limit, standing);
         let excess = rules.excess(share.exposure, left);
         // "standing grows by the rest".
         standing += share.exposure - excess;

@@ -1,4 +1,4 @@
-//! Records to figures: values, exposures, tiers, limits, and refusals 14 and 15.
+//! Records to figures: values, exposures, tiers, limits, and refusals 13, 17, 14 and 15.
 
 use super::fraction::Fraction;
 use super::records::*;
@@ -6,15 +6,16 @@ use super::rules::Rules;
 use crate::weightrose::Refusal;
 use std::collections::BTreeMap;
 
-/// VAF (P16) and VAF′ (P20).
+/// VAF (P16), VAF′ (P20) and all reinsurance values.
 pub struct Values {
     pub vaf: i128,
     pub vaf_prime: i128,
+    pub reinsurance: i128,
 }
 
 /// "VAF = total − all netted. VAF′ = total − reinsurance values + the sum of (stressed − netted,
 /// never below 0) − excluded."
-pub fn values<R: Rules>(rules: &R, book: &Book) -> Result<Values, Refusal> {
+pub fn values<R: Rules>(rules: &R, book: &Book) -> Values {
     let reinsurance: Vec<&Asset> =
         book.assets.iter().filter(|asset| asset.is_reinsurance()).collect();
     let held: i128 = reinsurance.iter().map(|asset| asset.value).sum();
@@ -23,14 +24,26 @@ pub fn values<R: Rules>(rules: &R, book: &Book) -> Result<Values, Refusal> {
         .iter()
         .map(|asset| rules.stressed_less_netted(asset, rules.stressed(asset)))
         .sum();
-    if !rules.reinsurance_values_accepted(held, book.total) {
-        return Err(Refusal::ReinsuranceValues);
+    Values {
+        vaf: book.total - netted,
+        vaf_prime: book.total - held + stressed - book.excluded,
+        reinsurance: held,
     }
-    let vaf_prime = book.total - held + stressed - book.excluded;
-    if !rules.vaf_prime_accepted(vaf_prime) {
-        return Err(Refusal::StressedAssets);
-    }
-    Ok(Values { vaf: book.total - netted, vaf_prime })
+}
+
+/// What a book of good records is turned back for, if anything: refusals 13, 17, 14 and 15.
+pub fn refusal<R: Rules>(rules: &R, book: &Book, values: &Values) -> Option<Refusal> {
+    let counts: Vec<u16> = book.assets.iter().map(|asset| asset.count).collect();
+    let unless = |accepted: bool, refusal| Some(refusal).filter(|_| !accepted);
+    rules.first_refusal([
+        unless(rules.counts_accepted(&counts, book.mitigants), Refusal::MitigantCounts),
+        rules.entry_not_of_fund(book).map(Refusal::SpecialistEntry),
+        unless(
+            rules.reinsurance_values_accepted(values.reinsurance, book.total),
+            Refusal::ReinsuranceValues,
+        ),
+        unless(rules.vaf_prime_accepted(values.vaf_prime), Refusal::StressedAssets),
+    ])
 }
 
 /// An asset's net.
@@ -103,27 +116,31 @@ pub fn tier<R: Rules>(rules: &R, exposure: &Exposure, counterparty: &Counterpart
     if rules.unlimited(exposure.kind, counterparty) {
         return None;
     }
+    let kept = || rules.kept_after(exposure.months);
     Some(match (exposure.kind, exposure.entry) {
+        (Kind::Reinsurance, Some(Entry::Retrocession)) => {
+            rules.retrocession_tier(counterparty, exposure.months)
+        }
         (Kind::Reinsurance, _) if counterparty.graded() => {
             rules.graded_reinsurance_tier(counterparty)
         }
         (Kind::Reinsurance, None) => Tier::IReinsurance,
-        (Kind::Reinsurance, Some(entry)) => {
-            downgraded_tier(entry, rules.kept_after(exposure.months))
+        (Kind::Reinsurance, Some(Entry::E)) => {
+            downgraded_tier([Tier::E, Tier::EFirst, Tier::ESecond], kept())
+        }
+        (Kind::Reinsurance, Some(Entry::G)) => {
+            downgraded_tier([Tier::G, Tier::GFirst, Tier::GSecond], kept())
         }
         (kind, _) => rules.tier(kind, counterparty),
     })
 }
 
-fn downgraded_tier(entry: Entry, kept: Kept) -> Tier {
-    match (entry, kept) {
-        (Entry::E, Kept::Full) => Tier::E,
-        (Entry::E, Kept::FirstPercent) => Tier::EFirst,
-        (Entry::E, Kept::SecondPercent) => Tier::ESecond,
-        (Entry::G, Kept::Full) => Tier::G,
-        (Entry::G, Kept::FirstPercent) => Tier::GFirst,
-        (Entry::G, Kept::SecondPercent) => Tier::GSecond,
-        (_, Kept::Nothing) => Tier::IReinsurance,
+fn downgraded_tier([full, first, second]: [Tier; 3], kept: Kept) -> Tier {
+    match kept {
+        Kept::Full => full,
+        Kept::FirstPercent => first,
+        Kept::SecondPercent => second,
+        Kept::Nothing => Tier::IReinsurance,
     }
 }
 
@@ -137,9 +154,10 @@ pub fn limits<R: Rules>(
 ) -> BTreeMap<Tier, i128> {
     let limit = |tier: Tier| {
         let vaf = if rules.uses_vaf_prime(tier) { values.vaf_prime } else { values.vaf };
-        let w = if tier == Tier::D { w } else { 0 };
+        let w = if rules.lessened_by_w(tier) { w } else { 0 };
         let percent = rules.percent(tier, schedule);
-        (tier, row_limit(rules, &schedule.rows[&tier.row()], vaf, base, w, percent))
+        let row = rules.row(tier, schedule);
+        (tier, row_limit(rules, Some(tier), &row, vaf, base, w, percent))
     };
     Tier::ALL.into_iter().map(limit).collect()
 }
@@ -147,11 +165,12 @@ pub fn limits<R: Rules>(
 /// "row z's limit (on VAF′, no percent) the A3 limit".
 pub fn a3_limit<R: Rules>(rules: &R, schedule: &Schedule, base: i128, values: &Values) -> i128 {
     let vaf = rules.a3_vaf(values.vaf, values.vaf_prime);
-    row_limit(rules, &schedule.rows[&RowName::Z], vaf, base, 0, 100)
+    row_limit(rules, None, &schedule.rows[&RowName::Z], vaf, base, 0, 100)
 }
 
 fn row_limit<R: Rules>(
     rules: &R,
+    tier: Option<Tier>,
     row: &Row,
     vaf: i128,
     base: i128,
@@ -159,5 +178,5 @@ fn row_limit<R: Rules>(
     percent: i128,
 ) -> i128 {
     let [first, second]: [Fraction; 2] = rules.vaf_products(row, vaf, w);
-    rules.limit([first, second, rules.base_product(row, base)], row.fixed, percent)
+    rules.limit(tier, [first, second, rules.base_product(row, base)], row.fixed, percent)
 }

@@ -1,4 +1,5 @@
-//! A second implementation of document 01, written from the document and from nothing else.
+//! A second implementation of document 01, with document 02's request C-11, written from the
+//! documents and from nothing else.
 //!
 //! It reads bytes into records (`read`), takes values, exposures, tiers and limits from them
 //! (`fund`), sums them by group and cuts what passes a limit (`cascade`), and writes the report
@@ -15,7 +16,7 @@ mod rules;
 mod slip;
 mod write;
 
-pub use rules::{Document01, Rules};
+pub use rules::{Documents, Rules};
 pub use slip::Slip;
 
 use crate::weightrose::{Answer, Refusal};
@@ -24,7 +25,7 @@ use write::Figures;
 
 /// The answer to a schedule and a book, with the report at the front of the buffer.
 pub fn report(schedule: &[u8], book: &[u8], buffer: &mut [u8]) -> Answer {
-    report_by(&Document01, schedule, book, buffer)
+    report_by(&Documents, schedule, book, buffer)
 }
 
 /// The same by other rules.
@@ -43,13 +44,16 @@ pub fn report_by<R: Rules>(rules: &R, schedule: &[u8], book: &[u8], buffer: &mut
 
 /// The report's length, whatever the buffer; none where schedule or book is refused.
 pub fn length(schedule: &[u8], book: &[u8]) -> Option<usize> {
-    bytes_by(&Document01, schedule, book).ok().map(|bytes| bytes.len())
+    bytes_by(&Documents, schedule, book).ok().map(|bytes| bytes.len())
 }
 
 fn bytes_by<R: Rules>(rules: &R, schedule: &[u8], book: &[u8]) -> Result<Vec<u8>, Refusal> {
     let schedule = read::schedule(schedule)?;
     let book = read::book(rules, book)?;
-    let values = fund::values(rules, &book)?;
+    let values = fund::values(rules, &book);
+    if let Some(refusal) = fund::refusal(rules, &book, &values) {
+        return Err(refusal);
+    }
     let sums = cascade::sums(rules, &book);
     let limits = fund::limits(rules, &schedule, book.base, &values, sums.w);
     let groups: Vec<Vec<Line>> = sums

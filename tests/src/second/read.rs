@@ -1,4 +1,4 @@
-//! Bytes to records: the layout of schedule and book, and refusals 1 to 13.
+//! Bytes to records: the layout of schedule and book, and refusals 1 to 12.
 
 use super::records::*;
 use super::rules::Rules;
@@ -107,6 +107,7 @@ fn schedule_rates_accepted(schedule: &Schedule) -> bool {
 }
 
 struct Header {
+    specialist: bool,
     counterparties: usize,
     assets: usize,
     mitigants: usize,
@@ -115,9 +116,9 @@ struct Header {
     excluded: i128,
 }
 
-/// The book, refusals 5 to 13.
+/// The book, refusals 5 to 12.
 pub fn book<R: Rules>(rules: &R, bytes: &[u8]) -> Result<Book, Refusal> {
-    let header = header(bytes)?;
+    let header = header(rules, bytes)?;
     let most_place = header.counterparties as Place;
     let mut bytes = Bytes(&bytes[40..]);
 
@@ -135,27 +136,31 @@ pub fn book<R: Rules>(rules: &R, bytes: &[u8]) -> Result<Book, Refusal> {
         assets.as_ref().err().map(|&place| Refusal::Asset(place)),
         mitigants.as_ref().err().map(|&place| Refusal::Mitigant(place)),
     ];
-    if let Some(refusal) = rules.first_refusal(bad_records) {
+    if let Some(refusal) = rules.first_bad_record(bad_records) {
         return Err(refusal);
     }
     Ok(Book {
+        specialist: header.specialist,
         total: header.total,
         base: header.base,
         excluded: header.excluded,
         counterparties: counterparties.unwrap(),
-        assets: with_mitigants(rules, assets.unwrap(), mitigants.unwrap())?,
+        assets: with_mitigants(rules, assets.unwrap(), mitigants.unwrap()),
+        mitigants: header.mitigants,
     })
 }
 
 /// The header's 40 bytes, refusals 5 to 9.
-fn header(book: &[u8]) -> Result<Header, Refusal> {
+fn header<R: Rules>(rules: &R, book: &[u8]) -> Result<Header, Refusal> {
     accept(book.len() >= 40, Refusal::BookLength)?;
     let mut bytes = Bytes(book);
     let mark = bytes.take(4);
     let version = bytes.u16();
     let [counterparties, assets, mitigants] = std::array::from_fn(|_| usize::from(bytes.u16()));
-    let zeros = bytes.take(4);
+    let specialist = rules.specialist(bytes.u8());
+    let zeros = bytes.take(3);
     let header = Header {
+        specialist: specialist == Some(true),
         counterparties,
         assets,
         mitigants,
@@ -163,7 +168,8 @@ fn header(book: &[u8]) -> Result<Header, Refusal> {
         base: bytes.i64(),
         excluded: bytes.u64(),
     };
-    accept(mark == b"ACB\0" && zeros == [0; 4], Refusal::BookMark)?;
+    let first_bytes = mark == b"ACB\0" && specialist.is_some() && zeros == [0; 3];
+    accept(first_bytes, Refusal::BookMark)?;
     accept(version == 1, Refusal::BookVersion)?;
     accept(counts_accepted(&header, book.len()), Refusal::BookCounts)?;
     accept(amounts_accepted(&header), Refusal::BookAmounts)?;
@@ -221,15 +227,15 @@ fn counterparty(mut bytes: Bytes, place: Place) -> Option<Counterparty> {
     Some(counterparty).filter(|_| grade <= 7)
 }
 
-/// An asset, still without its mitigants, and how many it has. "asset field, unknown bit, amount
-/// over M" (11): none.
-fn asset<R: Rules>(rules: &R, mut bytes: Bytes, most_place: Place) -> Option<(Asset, u16)> {
+/// An asset, still without its mitigants. "asset field, unknown bit, amount over M" (11): none.
+fn asset<R: Rules>(rules: &R, mut bytes: Bytes, most_place: Place) -> Option<Asset> {
     let kind = asset_kind(bytes.u8())?;
     let [linked, rises_under_stress] = bytes.flags()?;
     let entry = match bytes.u8() {
         0 => None,
         1 => Some(Entry::E),
         2 => Some(Entry::G),
+        3 => Some(Entry::Retrocession),
         _ => return None,
     };
     let months = bytes.u8();
@@ -247,11 +253,12 @@ fn asset<R: Rules>(rules: &R, mut bytes: Bytes, most_place: Place) -> Option<(As
         deductions: bytes.amount()?,
         insurance_stress: bytes.amount()?,
         combination_stress: bytes.amount()?,
+        count,
         mitigants: Vec::new(),
     };
     let accepted = reinsurance_fields_accepted(&asset)
         && rules.offsets_accepted(asset.is_reinsurance(), asset.offsets, asset.value);
-    Some((asset, count)).filter(|_| accepted)
+    Some(asset).filter(|_| accepted)
 }
 
 /// "Only reinsurance (kind 9) may have bit 1, entry, months or stress amounts nonzero; months need
@@ -312,18 +319,12 @@ fn known_place(place: Place, most_place: Place) -> Option<Place> {
     Some(place).filter(|place| (1..=most_place).contains(place))
 }
 
-/// Hands the mitigants out to the assets in order (13).
-fn with_mitigants<R: Rules>(
-    rules: &R,
-    assets: Vec<(Asset, u16)>,
-    mitigants: Vec<Mitigant>,
-) -> Result<Vec<Asset>, Refusal> {
-    let counts: Vec<u16> = assets.iter().map(|&(_, count)| count).collect();
-    accept(rules.counts_accepted(&counts, mitigants.len()), Refusal::MitigantCounts)?;
+/// Hands the mitigants out to the assets in order, as far as they go.
+fn with_mitigants<R: Rules>(rules: &R, assets: Vec<Asset>, mitigants: Vec<Mitigant>) -> Vec<Asset> {
     let mut mitigants = mitigants.into_iter();
-    let hand_out = |(asset, count): (Asset, u16)| {
-        let own = mitigants.by_ref().take(rules.mitigants_of(&asset, count)).collect();
+    let hand_out = |asset: Asset| {
+        let own = mitigants.by_ref().take(rules.mitigants_of(&asset, asset.count)).collect();
         Asset { mitigants: own, ..asset }
     };
-    Ok(assets.into_iter().map(hand_out).collect())
+    assets.into_iter().map(hand_out).collect()
 }

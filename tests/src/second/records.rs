@@ -1,4 +1,4 @@
-//! What a schedule and a book say, once read: document 01's records by name.
+//! What a schedule and a book say, once read: the documents' records by name.
 
 use std::collections::BTreeMap;
 
@@ -38,11 +38,15 @@ pub struct Schedule {
 
 #[derive(Debug)]
 pub struct Book {
+    /// Of a specialist fund (P46).
+    pub specialist: bool,
     pub total: i128,
     pub base: i128,
     pub excluded: i128,
     pub counterparties: BTreeMap<Place, Counterparty>,
     pub assets: Vec<Asset>,
+    /// K: how many mitigants follow the assets.
+    pub mitigants: usize,
 }
 
 #[derive(Clone, Copy, Debug, PartialEq, Eq)]
@@ -93,11 +97,13 @@ pub enum Kind {
     AnyOther,
 }
 
-/// The entry class of reinsurance: the row it was in when it was entered into (A2).
+/// The entry class of reinsurance: the row it was in when it was entered into (A2), or 3, "an
+/// identified retrocessionaire that was graded on entry" (P46).
 #[derive(Clone, Copy, Debug, PartialEq, Eq)]
 pub enum Entry {
     E,
     G,
+    Retrocession,
 }
 
 #[derive(Clone, Debug)]
@@ -113,12 +119,18 @@ pub struct Asset {
     pub deductions: i128,
     pub insurance_stress: i128,
     pub combination_stress: i128,
+    /// How many mitigants the record says it has, and those that are there.
+    pub count: u16,
     pub mitigants: Vec<Mitigant>,
 }
 
 impl Asset {
     pub fn is_reinsurance(&self) -> bool {
         self.kind == Kind::Reinsurance
+    }
+
+    pub fn is_retrocession(&self) -> bool {
+        self.entry == Some(Entry::Retrocession)
     }
 }
 
@@ -143,7 +155,7 @@ pub struct Mitigant {
     pub value: i128,
 }
 
-/// The tiers in the order of their numbers, 0 to 12.
+/// The tiers in the order of their numbers, 0 to 15.
 #[derive(Clone, Copy, Debug, PartialEq, Eq, PartialOrd, Ord)]
 pub enum Tier {
     I,
@@ -159,10 +171,13 @@ pub enum Tier {
     F,
     C,
     D,
+    Retrocession,
+    RetrocessionFirst,
+    RetrocessionSecond,
 }
 
 impl Tier {
-    pub const ALL: [Tier; 13] = [
+    pub const ALL: [Tier; 16] = [
         Tier::I,
         Tier::IReinsurance,
         Tier::H,
@@ -176,22 +191,18 @@ impl Tier {
         Tier::F,
         Tier::C,
         Tier::D,
+        Tier::Retrocession,
+        Tier::RetrocessionFirst,
+        Tier::RetrocessionSecond,
     ];
 
     pub fn number(self) -> u8 {
         self as u8
     }
 
-    pub fn row(self) -> RowName {
-        match self {
-            Tier::I | Tier::IReinsurance => RowName::I,
-            Tier::H | Tier::HReinsurance => RowName::H,
-            Tier::GSecond | Tier::GFirst | Tier::G => RowName::G,
-            Tier::ESecond | Tier::EFirst | Tier::E => RowName::E,
-            Tier::F => RowName::F,
-            Tier::C => RowName::C,
-            Tier::D => RowName::D,
-        }
+    /// One of the tiers that C-11 brought, 13 to 15.
+    pub fn is_retrocession(self) -> bool {
+        self >= Tier::Retrocession
     }
 }
 

@@ -1,22 +1,38 @@
-//! Document 01's sentences, one method each: every one that a wrong program could get wrong by
-//! itself. No method calls another, so that a slip can replace one and leave the rest.
+//! The documents' sentences, one method each: every one that a wrong program could get wrong by
+//! itself. No method calls another, so that a slip can replace one and leave the rest. A quotation
+//! is document 01's, but where a request of document 02 is named.
 
 use super::fraction::Fraction;
 use super::records::*;
 use crate::weightrose::Refusal;
 use std::collections::BTreeMap;
 
-/// Document 01 as it stands.
-pub struct Document01;
+/// Document 01, as document 02's requests have changed it.
+pub struct Documents;
 
-impl Rules for Document01 {}
+impl Rules for Documents {}
 
 pub trait Rules {
     // What the desk turns back.
 
+    /// C-11: "Header byte 12 set to 1 marks a specialist fund." None where it is neither 0 nor 1
+    /// (6: "its example is now byte 12 = 2").
+    fn specialist(&self, byte: u8) -> Option<bool> {
+        match byte {
+            0 => Some(false),
+            1 => Some(true),
+            _ => None,
+        }
+    }
+
     /// "Checked by rising number": the first bad counterparty, asset and mitigant, if any.
-    fn first_refusal(&self, bad_records: [Option<Refusal>; 3]) -> Option<Refusal> {
+    fn first_bad_record(&self, bad_records: [Option<Refusal>; 3]) -> Option<Refusal> {
         bad_records.into_iter().flatten().next()
+    }
+
+    /// C-11: 17 comes "after 13". The findings of 13, 17, 14 and 15 on a book of good records.
+    fn first_refusal(&self, found: [Option<Refusal>; 4]) -> Option<Refusal> {
+        found.into_iter().flatten().next()
     }
 
     /// "offsets are netted liabilities, at most its value" (11): reinsurance only.
@@ -32,6 +48,15 @@ pub trait Rules {
     /// "Mitigant, 12 bytes, in asset order": how many of them are an asset's.
     fn mitigants_of(&self, _asset: &Asset, count: u16) -> usize {
         usize::from(count)
+    }
+
+    /// C-11: "17 when entry 3 stands in a book whose byte 12 is 0, .., with the asset's place", the
+    /// first such asset's.
+    fn entry_not_of_fund(&self, book: &Book) -> Option<Place> {
+        let mut places = (1..).zip(&book.assets);
+        places
+            .find(|(_, asset)| asset.is_retrocession() && !book.specialist)
+            .map(|(place, _)| place)
     }
 
     /// "reinsurance values over total" (14).
@@ -189,7 +214,37 @@ pub trait Rules {
         }
     }
 
+    /// C-11, of entry 3: "Graded gives tier 13 whatever the months; ungraded, months 0 to 2 give
+    /// tier 13, 3 to 11 tier 14, 12 to 23 tier 15, from 24 the ordinary rule with no entry."
+    fn retrocession_tier(&self, retrocessionaire: &Counterparty, months: u8) -> Tier {
+        match months {
+            _ if retrocessionaire.graded() => Tier::Retrocession,
+            0..=2 => Tier::Retrocession,
+            3..=11 => Tier::RetrocessionFirst,
+            12..=23 => Tier::RetrocessionSecond,
+            24.. => Tier::IReinsurance,
+        }
+    }
+
     // Limits.
+
+    /// "Tier numbers: 0 i, 1 i reinsurance, .., 12 d": each by its letter's row. C-11: "New tiers
+    /// 13, 14 and 15 are 500, 330 and 170 per mille of VAF′, without base or fixed part."
+    fn row(&self, tier: Tier, schedule: &Schedule) -> Row {
+        let of_vaf_prime = |vaf_rate| Row { vaf_rate, second_vaf_rate: 0, base_rate: 0, fixed: 0 };
+        match tier {
+            Tier::I | Tier::IReinsurance => schedule.rows[&RowName::I],
+            Tier::H | Tier::HReinsurance => schedule.rows[&RowName::H],
+            Tier::GSecond | Tier::GFirst | Tier::G => schedule.rows[&RowName::G],
+            Tier::ESecond | Tier::EFirst | Tier::E => schedule.rows[&RowName::E],
+            Tier::F => schedule.rows[&RowName::F],
+            Tier::C => schedule.rows[&RowName::C],
+            Tier::D => schedule.rows[&RowName::D],
+            Tier::Retrocession => of_vaf_prime(500),
+            Tier::RetrocessionFirst => of_vaf_prime(330),
+            Tier::RetrocessionSecond => of_vaf_prime(170),
+        }
+    }
 
     /// "times the percent kept": tiers 5 and 8 the first percent, 4 and 7 the second.
     fn percent(&self, tier: Tier, schedule: &Schedule) -> i128 {
@@ -200,9 +255,14 @@ pub trait Rules {
         }
     }
 
-    /// "Tiers 1 and 3 to 9 use VAF′."
+    /// "Tiers 1 and 3 to 9 use VAF′." C-11: and 13 to 15, being "per mille of VAF′".
     fn uses_vaf_prime(&self, tier: Tier) -> bool {
-        matches!(tier.number(), 1 | 3..=9)
+        matches!(tier.number(), 1 | 3..=9 | 13..=15)
+    }
+
+    /// "For d the first rate's product is lessened by W": no other tier's.
+    fn lessened_by_w(&self, tier: Tier) -> bool {
+        tier == Tier::D
     }
 
     /// "W, the whole fund's tier c exposure of kind 3".
@@ -222,8 +282,15 @@ pub trait Rules {
         Fraction::per_mille(row.base_rate, base.max(0))
     }
 
-    /// "the greatest of .. and fixed amount, times the percent kept, exact, rounded down once".
-    fn limit(&self, products: [Fraction; 3], fixed: i128, percent: i128) -> i128 {
+    /// "the greatest of .. and fixed amount, times the percent kept, exact, rounded down once", for
+    /// a tier or, where there is none, for A3.
+    fn limit(
+        &self,
+        _tier: Option<Tier>,
+        products: [Fraction; 3],
+        fixed: i128,
+        percent: i128,
+    ) -> i128 {
         let greatest = products.into_iter().fold(Fraction::whole(fixed), Fraction::max);
         greatest.percent(percent).floor()
     }
@@ -238,13 +305,13 @@ pub trait Rules {
         }
     }
 
-    /// "tiers rank by limit in cents, then number".
+    /// "tiers rank by limit in cents, then number". C-11: 13 to 15 "rank .. like the rest".
     fn rank(&self, tier: Tier, limit: i128) -> (i128, i128) {
         (limit, i128::from(tier.number()))
     }
 
-    /// "Each tier's left is limit − standing".
-    fn left(&self, limit: i128, standing: i128) -> i128 {
+    /// "Each tier's left is limit − standing". C-11: 13 to 15 "cascade like the rest".
+    fn left(&self, _tier: Tier, limit: i128, standing: i128) -> i128 {
         limit - standing
     }
 
@@ -255,8 +322,9 @@ pub trait Rules {
 
     // A3.
 
-    /// "in tiers 1 and 3 to 6, exposures to counterparties not of kind 4".
-    fn counts_in_a3(&self, tier: Tier, counterparty: &Counterparty) -> bool {
+    /// "in tiers 1 and 3 to 6, exposures to counterparties not of kind 4". C-11: of 13 to 15, "A3
+    /// doesn't count them".
+    fn counts_in_a3(&self, tier: Tier, _exposure: &Exposure, counterparty: &Counterparty) -> bool {
         matches!(tier.number(), 1 | 3..=6)
             && !counterparty.is(CounterpartyKind::RegisteredLifeCompany)
     }

@@ -1,9 +1,9 @@
-//! Deliberately wrong variants of the second implementation: each slip has one sentence of
-//! document 01 wrong. A comparison that lets one of them pass shows nothing.
+//! Deliberately wrong variants of the second implementation: each slip has one sentence of the
+//! documents wrong. A comparison that lets one of them pass shows nothing.
 
 use super::fraction::Fraction;
 use super::records::*;
-use super::rules::{Document01, Rules};
+use super::rules::{Documents, Rules};
 use crate::weightrose::Refusal;
 use std::collections::BTreeMap;
 
@@ -31,12 +31,20 @@ slips! {
     Month3Full,
 
     // Refusals.
+    AnyByte12Marks,
     AssetsBeforeCounterparties,
     MitigantsBeforeAssets,
     NettedOverValueAccepted,
     OffsetsOverValueRefusedForAll,
     CountsAddedIn16Bits,
     CountsNotChecked,
+    SpecialistEntryBefore13,
+    SpecialistEntryAfter14,
+    SpecialistEntryAfter15,
+    SpecialistEntryWithoutPlace,
+    SpecialistEntryLastPlace,
+    SpecialistEntryNotChecked,
+    SpecialistEntryOfLinkedAccepted,
     ReinsuranceEqualToTotalRefused,
     VafPrime0Refused,
     VafPrimeMRefused,
@@ -55,6 +63,7 @@ slips! {
     HalfForAffiliatesToo,
     HalfForRegisteredToo,
     HalfForEveryAsset,
+    RetrocessionCoveredInFull,
     CurrencyNotAsked,
     P35TermsForEveryAsset,
     UngradedDebtRecognised,
@@ -83,8 +92,29 @@ slips! {
     Month12FirstPercent,
     Month23Nothing,
     Month24SecondPercent,
+    GradedRetrocessionByFlags,
+    GradedRetrocessionWhereHOnly,
+    GradedRetrocessionByMonths,
+    UngradedRetrocessionInE,
+    RetrocessionMonth2First,
+    RetrocessionMonth3Full,
+    RetrocessionMonth11Second,
+    RetrocessionMonth12First,
+    RetrocessionMonth23InI,
+    RetrocessionMonth24Second,
+    RetrocessionFrom24Second,
+    RetrocessionFrom24NotReinsurance,
 
     // Limits.
+    RetrocessionWithBase,
+    RetrocessionWithFixedAmount,
+    RetrocessionInThirds,
+    RetrocessionByPercentsKept,
+    RetrocessionPercentsKeptToo,
+    RetrocessionRoundedBeforePercent,
+    RetrocessionRoundedUp,
+    RetrocessionLessenedByW,
+    RetrocessionOnVaf,
     PercentsExchanged,
     PremiumsOnVafPrime,
     IReinsuranceOnVaf,
@@ -100,11 +130,15 @@ slips! {
     ParentNotTopmost,
     TiesByHigherNumber,
     ExposureCutWhole,
+    RetrocessionRanksLast,
+    RetrocessionNotCascaded,
 
     // A3.
     A3CountsKind4,
     A3CountsTiers7To9,
     A3WithoutTier1,
+    A3CountsRetrocession,
+    A3WithoutEntry3FromMonth24,
     A3CapReduced,
     A3OnVaf,
 
@@ -115,6 +149,7 @@ slips! {
     LinkedNotInAllNet,
     LinesWithoutExposure,
     TierSetWithoutLowest,
+    TierSetOf13Bits,
 }
 
 impl Slip {
@@ -124,12 +159,29 @@ impl Slip {
 }
 
 impl Rules for Slip {
-    fn first_refusal(&self, bad_records: [Option<Refusal>; 3]) -> Option<Refusal> {
+    fn specialist(&self, byte: u8) -> Option<bool> {
+        match self {
+            Slip::AnyByte12Marks => Some(byte != 0),
+            _ => Documents.specialist(byte),
+        }
+    }
+
+    fn first_bad_record(&self, bad_records: [Option<Refusal>; 3]) -> Option<Refusal> {
         let [counterparty, asset, mitigant] = bad_records;
         match self {
             Slip::AssetsBeforeCounterparties => asset.or(counterparty).or(mitigant),
             Slip::MitigantsBeforeAssets => counterparty.or(mitigant).or(asset),
-            _ => Document01.first_refusal(bad_records),
+            _ => Documents.first_bad_record(bad_records),
+        }
+    }
+
+    fn first_refusal(&self, found: [Option<Refusal>; 4]) -> Option<Refusal> {
+        let [counts, entry, values, stressed] = found;
+        match self {
+            Slip::SpecialistEntryBefore13 => entry.or(counts).or(values).or(stressed),
+            Slip::SpecialistEntryAfter14 => counts.or(values).or(entry).or(stressed),
+            Slip::SpecialistEntryAfter15 => counts.or(values).or(stressed).or(entry),
+            _ => Documents.first_refusal(found),
         }
     }
 
@@ -137,7 +189,7 @@ impl Rules for Slip {
         match self {
             Slip::NettedOverValueAccepted => true,
             Slip::OffsetsOverValueRefusedForAll => offsets <= value,
-            _ => Document01.offsets_accepted(reinsurance, offsets, value),
+            _ => Documents.offsets_accepted(reinsurance, offsets, value),
         }
     }
 
@@ -148,7 +200,7 @@ impl Rules for Slip {
                     == mitigants
             }
             Slip::CountsNotChecked => true,
-            _ => Document01.counts_accepted(counts, mitigants),
+            _ => Documents.counts_accepted(counts, mitigants),
         }
     }
 
@@ -156,13 +208,31 @@ impl Rules for Slip {
         if self.is(Slip::LinkedMitigantsTakeNoPlace) && asset.linked {
             return 0;
         }
-        Document01.mitigants_of(asset, count)
+        Documents.mitigants_of(asset, count)
+    }
+
+    fn entry_not_of_fund(&self, book: &Book) -> Option<Place> {
+        let right = Documents.entry_not_of_fund(book);
+        let mut places = (1..).zip(&book.assets);
+        match self {
+            Slip::SpecialistEntryWithoutPlace => right.map(|_| 0),
+            Slip::SpecialistEntryLastPlace => {
+                let last = places.filter(|(_, asset)| asset.is_retrocession()).last();
+                right.and(last).map(|(place, _)| place)
+            }
+            Slip::SpecialistEntryNotChecked => None,
+            Slip::SpecialistEntryOfLinkedAccepted => {
+                let first = places.find(|(_, asset)| asset.is_retrocession() && !asset.linked);
+                right.and(first).map(|(place, _)| place)
+            }
+            _ => right,
+        }
     }
 
     fn reinsurance_values_accepted(&self, values: i128, total: i128) -> bool {
         match self {
             Slip::ReinsuranceEqualToTotalRefused => values < total || values == 0,
-            _ => Document01.reinsurance_values_accepted(values, total),
+            _ => Documents.reinsurance_values_accepted(values, total),
         }
     }
 
@@ -171,28 +241,28 @@ impl Rules for Slip {
             Slip::VafPrime0Refused => (1..=MOST).contains(&vaf_prime),
             Slip::VafPrimeMRefused => (0..MOST).contains(&vaf_prime),
             Slip::VafPrimeOverMAccepted => vaf_prime >= 0,
-            _ => Document01.vaf_prime_accepted(vaf_prime),
+            _ => Documents.vaf_prime_accepted(vaf_prime),
         }
     }
 
     fn buffer_accepted(&self, buffer: usize, report: usize) -> bool {
         match self {
             Slip::ExactBufferRefused => buffer > report,
-            _ => Document01.buffer_accepted(buffer, report),
+            _ => Documents.buffer_accepted(buffer, report),
         }
     }
 
     fn stressed(&self, asset: &Asset) -> i128 {
         match self {
             Slip::GreaterStressAlways => asset.insurance_stress.max(asset.combination_stress),
-            _ => Document01.stressed(asset),
+            _ => Documents.stressed(asset),
         }
     }
 
     fn net(&self, asset: &Asset, value_or_stressed: i128) -> i128 {
         match self {
             Slip::DeductionsLeftInNet => (value_or_stressed - asset.offsets).max(0),
-            _ => Document01.net(asset, value_or_stressed),
+            _ => Documents.net(asset, value_or_stressed),
         }
     }
 
@@ -202,15 +272,16 @@ impl Rules for Slip {
             Slip::DeductionsTakenOffVafPrime => {
                 (stressed - asset.offsets - asset.deductions).max(0)
             }
-            _ => Document01.stressed_less_netted(asset, stressed),
+            _ => Documents.stressed_less_netted(asset, stressed),
         }
     }
 
     fn may_be_covered(&self, asset: &Asset, counterparty: &Counterparty, net: i128) -> i128 {
-        let right = Document01.may_be_covered(asset, counterparty, net);
+        let right = Documents.may_be_covered(asset, counterparty, net);
         let registered = counterparty.is(CounterpartyKind::RegisteredLifeCompany);
         let halved_too = match self {
             Slip::HalfRoundedUp if right < net => return net - net / 2,
+            Slip::RetrocessionCoveredInFull if asset.is_retrocession() => return net,
             Slip::HalfForAffiliatesToo => asset.is_reinsurance() && !registered,
             Slip::HalfForRegisteredToo => {
                 asset.is_reinsurance() && !counterparty.approved_affiliate
@@ -241,7 +312,7 @@ impl Rules for Slip {
             Slip::GradeAskedOfCash if !issuer.graded() => return false,
             _ => {}
         }
-        Document01.collateral_recognised(&item, &issuer, reinsurance)
+        Documents.collateral_recognised(&item, &issuer, reinsurance)
     }
 
     fn guarantee_recognised(
@@ -260,13 +331,13 @@ impl Rules for Slip {
             Slip::CurrencyAskedOfGuarantees if !item.same_currency => return false,
             _ => {}
         }
-        Document01.guarantee_recognised(&item, &guarantor, reinsurance)
+        Documents.guarantee_recognised(&item, &guarantor, reinsurance)
     }
 
     fn letter_recognised(&self, guarantee_recognised: bool, reinsurance: bool) -> bool {
         match self {
             Slip::LetterForEveryAsset => guarantee_recognised,
-            _ => Document01.letter_recognised(guarantee_recognised, reinsurance),
+            _ => Documents.letter_recognised(guarantee_recognised, reinsurance),
         }
     }
 
@@ -274,7 +345,7 @@ impl Rules for Slip {
         match (self, form) {
             (Slip::GuaranteeAlwaysBankPaper, Form::Guarantee) => Kind::BankPaper,
             (Slip::CashAsLoan, Form::Cash) => Kind::Loan,
-            _ => Document01.covered_kind(form, counterparty),
+            _ => Documents.covered_kind(form, counterparty),
         }
     }
 
@@ -289,7 +360,7 @@ impl Rules for Slip {
             }
             _ => false,
         };
-        wrongly || Document01.unlimited(kind, counterparty)
+        wrongly || Documents.unlimited(kind, counterparty)
     }
 
     fn tier(&self, kind: Kind, counterparty: &Counterparty) -> Tier {
@@ -304,7 +375,7 @@ impl Rules for Slip {
             (Slip::PremiumsNeedNoGrade, Kind::PremiumsOwed) => counterparty.grade = 1,
             _ => {}
         }
-        Document01.tier(kind, &counterparty)
+        Documents.tier(kind, &counterparty)
     }
 
     fn graded_reinsurance_tier(&self, reinsurer: &Counterparty) -> Tier {
@@ -318,7 +389,7 @@ impl Rules for Slip {
             }
             _ => {}
         }
-        Document01.graded_reinsurance_tier(&reinsurer)
+        Documents.graded_reinsurance_tier(&reinsurer)
     }
 
     fn kept_after(&self, months: u8) -> Kept {
@@ -329,15 +400,75 @@ impl Rules for Slip {
             (Slip::Month12FirstPercent, 12) => Kept::FirstPercent,
             (Slip::Month23Nothing, 23) => Kept::Nothing,
             (Slip::Month24SecondPercent, 24) => Kept::SecondPercent,
-            _ => Document01.kept_after(months),
+            _ => Documents.kept_after(months),
+        }
+    }
+
+    fn retrocession_tier(&self, retrocessionaire: &Counterparty, months: u8) -> Tier {
+        let right = Documents.retrocession_tier(retrocessionaire, months);
+        let mut ungraded = retrocessionaire.clone();
+        ungraded.grade = 0;
+        let by_flags = Documents.graded_reinsurance_tier(retrocessionaire);
+        let by_months = Documents.retrocession_tier(&ungraded, months);
+        if retrocessionaire.graded() {
+            return match self {
+                Slip::GradedRetrocessionByFlags => by_flags,
+                Slip::GradedRetrocessionWhereHOnly if by_flags != Tier::HReinsurance => by_flags,
+                Slip::GradedRetrocessionByMonths => by_months,
+                _ => right,
+            };
+        }
+        match (self, months) {
+            (Slip::UngradedRetrocessionInE, 0..=2) => Tier::E,
+            (Slip::UngradedRetrocessionInE, 3..=11) => Tier::EFirst,
+            (Slip::UngradedRetrocessionInE, 12..=23) => Tier::ESecond,
+            (Slip::RetrocessionMonth2First, 2) => Tier::RetrocessionFirst,
+            (Slip::RetrocessionMonth3Full, 3) => Tier::Retrocession,
+            (Slip::RetrocessionMonth11Second, 11) => Tier::RetrocessionSecond,
+            (Slip::RetrocessionMonth12First, 12) => Tier::RetrocessionFirst,
+            (Slip::RetrocessionMonth23InI, 23) => Tier::IReinsurance,
+            (Slip::RetrocessionMonth24Second, 24) => Tier::RetrocessionSecond,
+            (Slip::RetrocessionFrom24Second, 24..) => Tier::RetrocessionSecond,
+            (Slip::RetrocessionFrom24NotReinsurance, 24..) => Tier::I,
+            _ => right,
+        }
+    }
+
+    fn row(&self, tier: Tier, schedule: &Schedule) -> Row {
+        let right = Documents.row(tier, schedule);
+        if !tier.is_retrocession() {
+            return right;
+        }
+        let e = schedule.rows[&RowName::E];
+        match (self, tier) {
+            (Slip::RetrocessionWithBase, _) => Row { base_rate: e.base_rate, ..right },
+            (Slip::RetrocessionWithFixedAmount, _) => Row { fixed: e.fixed, ..right },
+            (Slip::RetrocessionInThirds, Tier::RetrocessionFirst) => Row { vaf_rate: 333, ..right },
+            (Slip::RetrocessionInThirds, Tier::RetrocessionSecond) => {
+                Row { vaf_rate: 167, ..right }
+            }
+            (Slip::RetrocessionByPercentsKept | Slip::RetrocessionRoundedBeforePercent, _) => {
+                Row { vaf_rate: 500, ..right }
+            }
+            _ => right,
         }
     }
 
     fn percent(&self, tier: Tier, schedule: &Schedule) -> i128 {
         match (self, tier) {
+            (
+                Slip::RetrocessionByPercentsKept | Slip::RetrocessionPercentsKeptToo,
+                Tier::RetrocessionFirst,
+            ) => schedule.first_percent,
+            (
+                Slip::RetrocessionByPercentsKept | Slip::RetrocessionPercentsKeptToo,
+                Tier::RetrocessionSecond,
+            ) => schedule.second_percent,
+            (Slip::RetrocessionRoundedBeforePercent, Tier::RetrocessionFirst) => 66,
+            (Slip::RetrocessionRoundedBeforePercent, Tier::RetrocessionSecond) => 34,
             (Slip::PercentsExchanged, Tier::GFirst | Tier::EFirst) => schedule.second_percent,
             (Slip::PercentsExchanged, Tier::GSecond | Tier::ESecond) => schedule.first_percent,
-            _ => Document01.percent(tier, schedule),
+            _ => Documents.percent(tier, schedule),
         }
     }
 
@@ -345,21 +476,29 @@ impl Rules for Slip {
         match (self, tier) {
             (Slip::PremiumsOnVafPrime, Tier::F) => true,
             (Slip::IReinsuranceOnVaf, Tier::IReinsurance) => false,
-            _ => Document01.uses_vaf_prime(tier),
+            (Slip::RetrocessionOnVaf, tier) if tier.is_retrocession() => false,
+            _ => Documents.uses_vaf_prime(tier),
+        }
+    }
+
+    fn lessened_by_w(&self, tier: Tier) -> bool {
+        match self {
+            Slip::RetrocessionLessenedByW => tier == Tier::D || tier == Tier::Retrocession,
+            _ => Documents.lessened_by_w(tier),
         }
     }
 
     fn counts_in_w(&self, tier: Tier, kind: Kind) -> bool {
         match self {
             Slip::WCountsKind5 => tier == Tier::C,
-            _ => Document01.counts_in_w(tier, kind),
+            _ => Documents.counts_in_w(tier, kind),
         }
     }
 
     fn vaf_products(&self, row: &Row, vaf: i128, w: i128) -> [Fraction; 2] {
-        let [first, second] = Document01.vaf_products(row, vaf, w);
+        let [first, second] = Documents.vaf_products(row, vaf, w);
         match self {
-            Slip::WIgnored => Document01.vaf_products(row, vaf, 0),
+            Slip::WIgnored => Documents.vaf_products(row, vaf, 0),
             Slip::WLessensSecondRate => [first, second.less(w).max(Fraction::whole(0))],
             Slip::SecondRateIgnored => [first, first],
             _ => [first, second],
@@ -368,20 +507,31 @@ impl Rules for Slip {
 
     fn base_product(&self, row: &Row, base: i128) -> Fraction {
         match self {
-            Slip::NegativeBaseAsPositive => Document01.base_product(row, base.abs()),
-            _ => Document01.base_product(row, base),
+            Slip::NegativeBaseAsPositive => Documents.base_product(row, base.abs()),
+            _ => Documents.base_product(row, base),
         }
     }
 
-    fn limit(&self, products: [Fraction; 3], fixed: i128, percent: i128) -> i128 {
-        let right = Document01.limit(products, fixed, percent);
+    fn limit(
+        &self,
+        tier: Option<Tier>,
+        products: [Fraction; 3],
+        fixed: i128,
+        percent: i128,
+    ) -> i128 {
+        let right = Documents.limit(tier, products, fixed, percent);
+        let rounded_before_percent = || Documents.limit(tier, products, fixed, 100) * percent / 100;
+        let rounded_up = || {
+            let greatest = products.into_iter().fold(Fraction::whole(fixed), Fraction::max);
+            right + i128::from(Fraction::whole(right) < greatest.percent(percent))
+        };
+        let retrocession = tier.is_some_and(Tier::is_retrocession);
         match self {
-            Slip::RoundedBeforePercent => Document01.limit(products, fixed, 100) * percent / 100,
+            Slip::RoundedBeforePercent => rounded_before_percent(),
+            Slip::RetrocessionRoundedBeforePercent if retrocession => rounded_before_percent(),
             Slip::FixedAmountKeptWhole => right.max(fixed),
-            Slip::RoundedUp => {
-                let greatest = products.into_iter().fold(Fraction::whole(fixed), Fraction::max);
-                right + i128::from(Fraction::whole(right) < greatest.percent(percent))
-            }
+            Slip::RoundedUp => rounded_up(),
+            Slip::RetrocessionRoundedUp if retrocession => rounded_up(),
             _ => right,
         }
     }
@@ -389,7 +539,7 @@ impl Rules for Slip {
     fn topmost(&self, counterparties: &BTreeMap<Place, Counterparty>, place: Place) -> Place {
         match self {
             Slip::ParentNotTopmost => counterparties[&place].parent.unwrap_or(place),
-            _ => Document01.topmost(counterparties, place),
+            _ => Documents.topmost(counterparties, place),
         }
     }
 
@@ -397,31 +547,38 @@ impl Rules for Slip {
         match self {
             Slip::FixedRanking => (i128::from(tier.number()), 0),
             Slip::TiesByHigherNumber => (limit, -i128::from(tier.number())),
-            _ => Document01.rank(tier, limit),
+            Slip::RetrocessionRanksLast if tier.is_retrocession() => (i128::MAX, limit),
+            _ => Documents.rank(tier, limit),
         }
     }
 
-    fn left(&self, limit: i128, standing: i128) -> i128 {
+    fn left(&self, tier: Tier, limit: i128, standing: i128) -> i128 {
         match self {
             Slip::UnreducedLimits => limit,
-            _ => Document01.left(limit, standing),
+            Slip::RetrocessionNotCascaded if tier.is_retrocession() => limit,
+            _ => Documents.left(tier, limit, standing),
         }
     }
 
     fn excess(&self, exposure: i128, left: i128) -> i128 {
         match self {
             Slip::ExposureCutWhole => exposure,
-            _ => Document01.excess(exposure, left),
+            _ => Documents.excess(exposure, left),
         }
     }
 
-    fn counts_in_a3(&self, tier: Tier, counterparty: &Counterparty) -> bool {
+    fn counts_in_a3(&self, tier: Tier, exposure: &Exposure, counterparty: &Counterparty) -> bool {
+        let right = Documents.counts_in_a3(tier, exposure, counterparty);
         let registered = counterparty.is(CounterpartyKind::RegisteredLifeCompany);
         match self {
             Slip::A3CountsKind4 => matches!(tier.number(), 1 | 3..=6),
             Slip::A3CountsTiers7To9 => matches!(tier.number(), 1 | 3..=9) && !registered,
             Slip::A3WithoutTier1 => matches!(tier.number(), 3..=6) && !registered,
-            _ => Document01.counts_in_a3(tier, counterparty),
+            Slip::A3CountsRetrocession => right || tier.is_retrocession() && !registered,
+            Slip::A3WithoutEntry3FromMonth24 => {
+                right && exposure.entry != Some(Entry::Retrocession)
+            }
+            _ => right,
         }
     }
 
@@ -429,14 +586,14 @@ impl Rules for Slip {
         match self {
             Slip::A3Uncapped => line.a3_together,
             Slip::A3CapReduced => line.a3_together.min(line.left),
-            _ => Document01.a3_part(line),
+            _ => Documents.a3_part(line),
         }
     }
 
     fn a3_vaf(&self, vaf: i128, vaf_prime: i128) -> i128 {
         match self {
             Slip::A3OnVaf => vaf,
-            _ => Document01.a3_vaf(vaf, vaf_prime),
+            _ => Documents.a3_vaf(vaf, vaf_prime),
         }
     }
 
@@ -444,32 +601,33 @@ impl Rules for Slip {
         match self {
             Slip::ChargeWithoutA3 => group_excess,
             Slip::ChargeAlways0 => 0,
-            _ => Document01.charge(group_excess, a3_sum, a3_limit),
+            _ => Documents.charge(group_excess, a3_sum, a3_limit),
         }
     }
 
     fn all_unlimited(&self, linked: i128, without_limit: i128) -> i128 {
         match self {
             Slip::LinkedNotUnlimited => without_limit,
-            _ => Document01.all_unlimited(linked, without_limit),
+            _ => Documents.all_unlimited(linked, without_limit),
         }
     }
 
     fn all_net(&self, linked: i128, others: i128) -> i128 {
         match self {
             Slip::LinkedNotInAllNet => others,
-            _ => Document01.all_net(linked, others),
+            _ => Documents.all_net(linked, others),
         }
     }
 
     fn has_line(&self, exposure: i128) -> bool {
-        self.is(Slip::LinesWithoutExposure) || Document01.has_line(exposure)
+        self.is(Slip::LinesWithoutExposure) || Documents.has_line(exposure)
     }
 
     fn tier_set(&self, tiers: &[Tier]) -> u16 {
-        let set = Document01.tier_set(tiers);
+        let set = Documents.tier_set(tiers);
         match self {
             Slip::TierSetWithoutLowest if tiers.len() > 1 => set & (set - 1),
+            Slip::TierSetOf13Bits => set & 0x1fff,
             _ => set,
         }
     }

@@ -3,7 +3,7 @@ use mathlib.Core.Path.{_≡_}
 use Prim.Native.Nat.{_+_, _*_}
 use native.Mathlib.Omega.{arith}
 use Rattle.words.specs.Words.{sumOf}
-use Rattle.rows.specs.Rows.{columns}
+use Rattle.rows.specs.Rows.{columns, a3Columns}
 use Rattle.columns.specs.Column.{a3Column}
 use Rattle.a3.specs.A3.{a3Part, a3At}
 use borrow.Author.Needs.{needs}
@@ -26,10 +26,10 @@ returns : tie.Need-returns
 unfolding a3Part sumOf a3At a3Column
 returns c =
     let at = columns * c .before .before .before .before .before .before .before .before .before .before .before .args .k in
-    let third : at + 16 ≡ at + 15 + 1 = omega arith in
-    let fourth : at + 17 ≡ at + 15 + 2 = omega arith in
-    let fifth : at + 18 ≡ at + 15 + 3 = omega arith in
-    let sixth : at + 19 ≡ at + 15 + 4 = omega arith in
+    let third : at + (a3Columns + 1) ≡ at + a3Columns + 1 = omega arith in
+    let fourth : at + (a3Columns + 2) ≡ at + a3Columns + 2 = omega arith in
+    let fifth : at + (a3Columns + 3) ≡ at + a3Columns + 3 = omega arith in
+    let sixth : at + (a3Columns + 4) ≡ at + a3Columns + 4 = omega arith in
     rw (third, fourth, fifth, sixth) (omega arith)
 
 pub part-spec : {M : Type 1} → statement M

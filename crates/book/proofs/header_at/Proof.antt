@@ -1,4 +1,4 @@
--- `header_at`: the header's numbers stand where `headerAt` reads them.
+-- `header_at`: the header's fields stand where `headerAt` reads them.
 use mir.Syntax.{w64}
 use mir.Facts.{toZ-ofZ}
 use Rattle.book.specs.Records.{headerAt}
@@ -9,8 +9,8 @@ use Rattle.book.proofs.header_at.Tie as tie
 returns : tie.Need-returns
 unfolding headerAt
 returns c =
-    let signed = c .before .i64-at in
-    rw (c .u64-at2 .ensures, toZ-ofZ {w = w64} {z = signed .result} (record { sfits = signed .ok }), signed .ensures, c .before .before .u64-at .ensures, c .before .before .before .u16-at3 .ensures, c .before .before .before .before .u16-at2 .ensures, c .before .before .before .before .before .u16-at .ensures)
+    let signed = c .before .before .i64-at in
+    rw (c .before .u64-at2 .ensures, toZ-ofZ {w = w64} {z = signed .result} (record { sfits = signed .ok }), signed .ensures, c .before .before .before .u64-at .ensures, c .before .before .before .before .u16-at3 .ensures, c .before .before .before .before .before .u16-at2 .ensures, c .before .before .before .before .before .before .u16-at .ensures)
 
 pub header-at-spec : {M : Type 1} → statement M
 header-at-spec =
@@ -22,4 +22,5 @@ header-at-spec =
     (λ c κs. search needs)
     (λ c κs. search needs)
     (λ c κs. search needs)
+    (λ c. search needs)
     returns)

@@ -1,10 +1,11 @@
 -- `cells::post_parts` meets its contract. The loop's invariant: the cells, with what the mitigants still to come cover, have the sums of all.
-use Prim.Native.Nat.{_+_, _-_, _≤_, _<_, _^_}
+use Prim.Native.Nat.{_+_, _*_, _-_, _≤_, _<_, _^_}
 use lib.ListN.{getD}
 use native.Mathlib.Omega.{arith}
 use borrow.Author.Needs.{needs}
 use denote.Ref.{now}
 use Rattle.book.specs.Records.{K}
+use Rattle.rows.specs.Rows.{mostGroups, columns}
 use Rattle.cells.proofs.Posting.{OnParts, parts-start, parts-end, part-small, part-few, part-room, part-step}
 use Rattle.cells.proofs.post_parts.Statement.{statement}
 use Rattle.cells.proofs.post_parts.Tie as tie
@@ -24,7 +25,7 @@ cell-at-requires c κs = let s = c .before .before .before .before .before .befo
 on : (d : tie.After-cell-at Inv-loop μ-loop) → d .before .before .loop .place ≤ K (now (d .before .before .before .before .before .before .before .before .args .b))
 on d = omega arith
 
-few : (d : tie.After-cell-at Inv-loop μ-loop) → d .cell-at .result < 10000
+few : (d : tie.After-cell-at Inv-loop μ-loop) → d .cell-at .result < columns * mostGroups
 few d = let s = d .before .before .before .before .before .before .before .before in part-few (d .before .before .loop .inv) (s .pre .0) (on d) (s .pre .5) (d .cell-at .ensures _)
 
 fit : (d : tie.After-cell-at Inv-loop μ-loop) → getD (d .before .before .loop .cells) (d .cell-at .result) 0 + getD (now (d .before .before .before .before .before .before .before .before .args .covered)) (d .before .before .loop .place) 0 < 2 ^ 64

@@ -1,13 +1,13 @@
 -- `cells::post_rests` meets its contract. The loop's invariant: the cells, with what is left of the assets still to come, have the sums of all.
-use Prim.Native.Nat.{_≤_, _<_, _^_, _+_, _-_}
+use Prim.Native.Nat.{_+_, _*_, _-_, _≤_, _<_, _^_}
 use mathlib.Core.Path.{_≡_, _∙_}
 use lib.ListN.{getD}
-use Rattle.cells.specs.Cells.{}
 use Rattle.assets.specs.Assets.{restCell}
 use native.Mathlib.Omega.{arith}
 use borrow.Author.Needs.{needs}
 use denote.Ref.{now}
 use Rattle.book.specs.Records.{N}
+use Rattle.rows.specs.Rows.{mostGroups, columns}
 use Rattle.cells.proofs.Posting.{OnRests, rests-start, rests-end, left-few, left-small, left-room, left-step}
 use Rattle.cells.proofs.post_rests.Statement.{statement}
 use Rattle.cells.proofs.post_rests.Tie as tie
@@ -27,7 +27,7 @@ on d = omega arith
 is : (d : tie.After-wide Inv-loop μ-loop) → d .wide .result ≡ restCell (now (d .before .before .before .before .before .before .before .before .args .b)) (d .before .before .before .loop .place)
 is d = let s = d .before .before .before .before .before .before .before .before in let o = d .before .before .before .loop .inv in d .wide .ensures ∙ s .pre .2 .each _ (o .low) (on d)
 
-few : (d : tie.After-wide Inv-loop μ-loop) → d .wide .result < 10000
+few : (d : tie.After-wide Inv-loop μ-loop) → d .wide .result < columns * mostGroups
 few d = let s = d .before .before .before .before .before .before .before .before in left-few (d .before .before .before .loop .inv) (s .pre .0) (on d) (s .pre .4) (is d)
 
 fit : (d : tie.After-wide Inv-loop μ-loop) → getD (d .before .before .before .loop .cells) (d .wide .result) 0 + getD (now (d .before .before .before .before .before .before .before .before .args .rests)) (d .before .before .before .loop .place) 0 < 2 ^ 64

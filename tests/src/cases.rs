@@ -1,0 +1,98 @@
+//! What the documents' cases ask of the library: a report by its fields, or a refusal.
+
+use crate::raw::RawBook;
+use crate::weightrose::{self, Answer, Refusal, HEADER, LARGEST_REPORT, LINE};
+
+pub struct Report {
+    pub bytes: Vec<u8>,
+}
+
+#[derive(Debug, PartialEq, Eq)]
+pub struct Line {
+    pub top: u16,
+    pub tier: u8,
+    pub set: u16,
+    /// Exposure, limit, left, excess.
+    pub amounts: [u64; 4],
+}
+
+impl Report {
+    fn u16(&self, place: usize) -> u16 {
+        u16::from_le_bytes(self.bytes[place..place + 2].try_into().unwrap())
+    }
+
+    fn u64(&self, place: usize) -> u64 {
+        u64::from_le_bytes(self.bytes[place..place + 8].try_into().unwrap())
+    }
+
+    pub fn vaf(&self) -> u64 {
+        self.u64(8)
+    }
+
+    pub fn vaf_prime(&self) -> u64 {
+        self.u64(16)
+    }
+
+    pub fn all_net(&self) -> u64 {
+        self.u64(24)
+    }
+
+    pub fn a3_sum(&self) -> u64 {
+        self.u64(48)
+    }
+
+    pub fn charge(&self) -> u64 {
+        self.u64(64)
+    }
+
+    pub fn lines(&self) -> Vec<Line> {
+        assert_eq!(self.bytes.len(), HEADER + LINE * usize::from(self.u16(6)));
+        let line = |start: usize| Line {
+            top: self.u16(start),
+            tier: self.bytes[start + 2],
+            set: self.u16(start + 4),
+            amounts: std::array::from_fn(|amount| self.u64(start + 8 + 8 * amount)),
+        };
+        (HEADER..self.bytes.len()).step_by(LINE).map(line).collect()
+    }
+
+    /// What document 01's program prints for the report.
+    pub fn printed(&self) -> String {
+        let line = |line: &Line| {
+            let [exposure, limit, left, excess] = line.amounts;
+            format!("{} {} {exposure} {limit} {left} {excess}\n", line.top, line.tier)
+        };
+        let lines: String = self.lines().iter().map(line).collect();
+        format!("{lines}charge {}\n", self.charge())
+    }
+}
+
+/// The report of a book that is accepted, under a schedule.
+pub fn report_under(schedule: &[u8], book: &RawBook) -> Report {
+    let mut buffer = vec![0xa5; LARGEST_REPORT];
+    match weightrose::report(schedule, &book.bytes(), &mut buffer) {
+        Answer::Report(length) => Report { bytes: buffer[..length].to_vec() },
+        Answer::Refused(refusal) => panic!("{refusal:?}"),
+    }
+}
+
+/// The same under the published schedule.
+pub fn report(book: &RawBook) -> Report {
+    report_under(&weightrose::published(), book)
+}
+
+/// The refusal of a schedule and a book with a buffer of that length, which must stay as it was.
+pub fn refusal(schedule: &[u8], book: &[u8], room: usize) -> Refusal {
+    let mut buffer = vec![0xa5; room];
+    let answer = weightrose::report(schedule, book, &mut buffer);
+    assert!(buffer.iter().all(|&byte| byte == 0xa5), "a refusal changed the buffer");
+    match answer {
+        Answer::Refused(refusal) => refusal,
+        Answer::Report(length) => panic!("a report of {length} bytes"),
+    }
+}
+
+/// The refusal of a book under the published schedule.
+pub fn refused_book(book: &RawBook) -> Refusal {
+    refusal(&weightrose::published(), &book.bytes(), LARGEST_REPORT)
+}

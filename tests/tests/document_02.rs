@@ -1,0 +1,361 @@
+//! Document 02's requests through the library, with their figures and both sides of each of their
+//! boundaries: C-11, specialist reinsurers.
+
+use weightrose_tests::cases::{refusal, refused_book, report, report_under, Report};
+use weightrose_tests::inputs::{largest_specialist_book, sample, sixteen_tiers};
+use weightrose_tests::raw::*;
+use weightrose_tests::weightrose::{published, Refusal, LARGEST_BOOK, LARGEST_REPORT};
+
+const TOTAL: u64 = 10_000_000_000;
+const BASE: i64 = 1_000_000_000;
+
+/// A specialist fund, still without records.
+fn specialist(total: u64, base: i64) -> RawBook {
+    RawBook { specialist: 1, ..RawBook::empty(total, base, 0) }
+}
+
+/// Reinsurance of entry class 3 whose value and combination stress are the same.
+fn retrocession(counterparty: u16, months: u8, value: u64) -> RawAsset {
+    RawAsset {
+        kind: 9,
+        entry: 3,
+        months,
+        counterparty,
+        value,
+        combination_stress: value,
+        ..Default::default()
+    }
+}
+
+fn graded() -> RawCounterparty {
+    RawCounterparty { grade: 1, ..Default::default() }
+}
+
+/// A specialist fund with ungraded retrocessions of 1 in tiers 13, 14 and 15; VAF is so much more
+/// than VAF′.
+fn three_tiers(vaf_prime: u64, more: u64) -> RawBook {
+    let mut book = specialist(vaf_prime + more, 0);
+    book.excluded = more + 3;
+    book.counterparty(RawCounterparty::default());
+    for months in [0, 3, 12] {
+        book.asset(RawAsset { value: 0, combination_stress: 1, ..retrocession(1, months, 0) }, &[]);
+    }
+    book
+}
+
+fn tiers(report: &Report) -> Vec<u8> {
+    report.lines().iter().map(|line| line.tier).collect()
+}
+
+/// The limits of tiers 13, 14 and 15.
+fn limits(report: &Report) -> [u64; 3] {
+    let lines = report.lines();
+    [13, 14, 15].map(|tier| lines.iter().find(|line| line.tier == tier).unwrap().amounts[1])
+}
+
+/// Kinds 0 to 4 with each set of flags and each grade, every one of them a group.
+fn every_sort() -> Vec<RawCounterparty> {
+    let mut sorts = Vec::new();
+    for kind in 0..5 {
+        for flags in 0..8 {
+            sorts.extend((0..8).map(|grade| RawCounterparty { parent: 0, grade, kind, flags }));
+        }
+    }
+    sorts
+}
+
+/// A specialist fund that has the asset with each of the counterparties.
+fn with_each(counterparties: &[RawCounterparty], asset: RawAsset) -> RawBook {
+    let mut book = specialist(TOTAL, BASE);
+    book.counterparties = counterparties.to_vec();
+    for counterparty in 1..=counterparties.len() as u16 {
+        book.asset(RawAsset { counterparty, ..asset }, &[]);
+    }
+    book
+}
+
+/// The asset's tier with each of them.
+fn tiers_with(counterparties: &[RawCounterparty], asset: RawAsset) -> Vec<u8> {
+    let lines = report(&with_each(counterparties, asset)).lines();
+    assert_eq!(lines.len(), counterparties.len());
+    assert!((1..).zip(&lines).all(|(place, line)| line.top == place));
+    lines.iter().map(|line| line.tier).collect()
+}
+
+#[test]
+fn c11_graded_gives_13_and_months_decide_the_rest() {
+    let ungraded = [
+        (0, 13),
+        (1, 13),
+        (2, 13),
+        (3, 14),
+        (11, 14),
+        (12, 15),
+        (23, 15),
+        (24, 1),
+        (25, 1),
+        (255, 1),
+    ];
+    let sorts = every_sort();
+    for (months, tier) in ungraded {
+        let found = tiers_with(&sorts, retrocession(0, months, 1));
+        for (sort, found) in sorts.iter().zip(found) {
+            let expected = if (1..=3).contains(&sort.grade) { 13 } else { tier };
+            assert_eq!(found, expected, "{sort:?}, month {months}");
+        }
+    }
+}
+
+/// Those that entry 3 puts into tier 13 are in e, g or h without it.
+#[test]
+fn c11_overrides_e_g_and_h() {
+    let mut sorts = every_sort();
+    sorts.retain(|sort| (1..=3).contains(&sort.grade));
+    let mut without = tiers_with(&sorts, RawAsset { entry: 0, ..retrocession(0, 0, 1) });
+    without.sort_unstable();
+    without.dedup();
+    assert_eq!(without, [3, 6, 9]);
+    assert!(tiers_with(&sorts, retrocession(0, 0, 1)).iter().all(|&tier| tier == 13));
+}
+
+/// Without entry 3, a specialist fund's report is any other fund's.
+#[test]
+fn c11_the_mark_alone_changes_nothing() {
+    let mut books = vec![sample(), sixteen_tiers(2, 100, 1_000)];
+    books[1].assets.iter_mut().filter(|asset| asset.entry == 3).for_each(|asset| asset.entry = 2);
+    for (entry, months) in [(0, 0), (1, 0), (1, 3), (1, 12), (1, 24), (2, 2), (2, 11), (2, 23)] {
+        books.push(with_each(&every_sort(), RawAsset { entry, ..retrocession(0, months, 1) }));
+    }
+    for book in books {
+        let [unmarked, marked] =
+            [0, 1].map(|fund| report(&RawBook { specialist: fund, ..book.clone() }));
+        assert_eq!(unmarked.bytes, marked.bytes);
+    }
+}
+
+#[test]
+fn c11_refuses_17_at_the_first_such_asset() {
+    for linked in [0, 1] {
+        let mut book = specialist(TOTAL, BASE);
+        book.counterparty(graded());
+        for entry in [1, 3, 0, 3] {
+            book.asset(RawAsset { entry, flags: linked, ..retrocession(1, 0, 5) }, &[]);
+        }
+        report(&book);
+        book.specialist = 0;
+        assert_eq!(refused_book(&book), Refusal::SpecialistEntry(2));
+        book.assets[0].entry = 3;
+        assert_eq!(refused_book(&book), Refusal::SpecialistEntry(1));
+        book.assets[..3].iter_mut().for_each(|asset| asset.entry = 2);
+        assert_eq!(refused_book(&book), Refusal::SpecialistEntry(4));
+    }
+    let mut largest = largest_specialist_book();
+    largest.assets[..499].iter_mut().for_each(|asset| (asset.entry, asset.months) = (0, 0));
+    largest.specialist = 0;
+    assert_eq!(refused_book(&largest), Refusal::SpecialistEntry(500));
+}
+
+/// 13, then 17, then 14, 15 and 16: each fault is put before those that are there already.
+#[test]
+fn c11_refuses_17_behind_13_and_before_14() {
+    let in_71_bytes = |book: &RawBook| refusal(&published(), &book.bytes(), 71);
+    let mut book = specialist(5, 0);
+    book.counterparty(graded());
+    book.asset(retrocession(1, 0, 5), &[]);
+    assert_eq!(in_71_bytes(&book), Refusal::BufferShort);
+    book.excluded = 6;
+    assert_eq!(in_71_bytes(&book), Refusal::StressedAssets);
+    book.total = 4;
+    assert_eq!(in_71_bytes(&book), Refusal::ReinsuranceValues);
+    book.specialist = 0;
+    assert_eq!(in_71_bytes(&book), Refusal::SpecialistEntry(1));
+    book.assets[0].mitigants = 1;
+    assert_eq!(in_71_bytes(&book), Refusal::MitigantCounts);
+    // 17 before each of 15 and 16 alone.
+    let mut stressed = RawBook { specialist: 0, excluded: 6, ..specialist(5, 0) };
+    stressed.counterparty(graded());
+    stressed.asset(retrocession(1, 0, 5), &[]);
+    assert_eq!(refused_book(&stressed), Refusal::SpecialistEntry(1));
+    stressed.excluded = 0;
+    assert_eq!(in_71_bytes(&stressed), Refusal::SpecialistEntry(1));
+}
+
+#[test]
+fn c11_header_bytes_12_to_15() {
+    for byte in 2..=255 {
+        let book = RawBook { specialist: byte, ..specialist(TOTAL, BASE) };
+        assert_eq!(refused_book(&book), Refusal::BookMark);
+    }
+    for fund in [0, 1] {
+        for zeros in [[1, 0, 0], [0, 1, 0], [0, 0, 1]] {
+            let book = RawBook { specialist: fund, zeros, ..specialist(TOTAL, BASE) };
+            assert_eq!(refused_book(&book), Refusal::BookMark);
+        }
+    }
+}
+
+#[test]
+fn c11_entry_classes() {
+    let with = |change: fn(&mut RawAsset)| {
+        let mut book = specialist(TOTAL, BASE);
+        book.counterparty(graded());
+        book.asset(retrocession(1, 0, 5), &[]);
+        book.asset(retrocession(1, 0, 5), &[]);
+        change(&mut book.assets[1]);
+        book
+    };
+    report(&with(|asset| asset.months = 255));
+    for change in [
+        (|asset| asset.entry = 4) as fn(&mut RawAsset),
+        |asset| asset.entry = 255,
+        |asset| (asset.entry, asset.months) = (0, 1),
+    ] {
+        let mut book = with(change);
+        assert_eq!(refused_book(&book), Refusal::Asset(2));
+        book.specialist = 0;
+        assert_eq!(refused_book(&book), Refusal::Asset(2));
+    }
+    for kind in [1, 2, 3, 4, 5, 6, 7, 8, 10, 11] {
+        let mut book = with(|asset| asset.combination_stress = 0);
+        book.assets[1].kind = kind;
+        assert_eq!(refused_book(&book), Refusal::Asset(2));
+        book.assets[1].entry = 0;
+        report(&book);
+    }
+}
+
+/// 35.5, 23.43 and 12.07 cents, whatever the schedule, the base and VAF.
+#[test]
+fn c11_limits_at_71() {
+    let mut most = RawSchedule::published();
+    most.rows = [RawRow { rates: [1_500; 3], fixed: MOST }; 8];
+    let mut least = RawSchedule::published();
+    least.rows = [RawRow { rates: [0; 3], fixed: 0 }; 8];
+    for rows in [RawSchedule::published(), most, least] {
+        for percents in [[66, 34], [100, 100], [0, 0], [0, 100]] {
+            let schedule = RawSchedule { percents, ..rows.clone() }.bytes();
+            for (base, more) in [(0, 0), (MOST as i64, 0), (-(MOST as i64), 1_000)] {
+                let book = RawBook { base, ..three_tiers(71, more) };
+                let report = report_under(&schedule, &book);
+                assert_eq!((report.vaf(), report.vaf_prime()), (71 + more, 71));
+                assert_eq!(limits(&report), [35, 23, 12]);
+                assert_eq!(tiers(&report), [15, 14, 13]);
+            }
+        }
+    }
+}
+
+/// Rounded down each, and where they tie the lower number first.
+#[test]
+fn c11_small_limits_and_their_ties() {
+    for (vaf_prime, expected, order) in [
+        (0, [0, 0, 0], [13, 14, 15]),
+        (1, [0, 0, 0], [13, 14, 15]),
+        (2, [1, 0, 0], [14, 15, 13]),
+        (3, [1, 0, 0], [14, 15, 13]),
+        (4, [2, 1, 0], [15, 14, 13]),
+        (5, [2, 1, 0], [15, 14, 13]),
+        (6, [3, 1, 1], [14, 15, 13]),
+        (7, [3, 2, 1], [15, 14, 13]),
+        (1_000, [500, 330, 170], [15, 14, 13]),
+        (MOST - 3, [4_999_999_999_998, 3_299_999_999_999, 1_699_999_999_999], [15, 14, 13]),
+        (MOST, [5_000_000_000_000, 3_300_000_000_000, 1_700_000_000_000], [15, 14, 13]),
+    ] {
+        let report = report(&three_tiers(vaf_prime, 0));
+        assert_eq!(limits(&report), expected, "VAF′ {vaf_prime}");
+        assert_eq!(tiers(&report), order, "VAF′ {vaf_prime}");
+    }
+}
+
+#[test]
+fn c11_at_the_limit_and_one_more() {
+    for (months, limit) in [(2, 5_000_000_000), (3, 3_300_000_000), (12, 1_700_000_000)] {
+        for (value, charge) in [(limit, 0), (limit + 1, 1)] {
+            let mut book = specialist(TOTAL, BASE);
+            book.counterparty(RawCounterparty::default());
+            book.asset(retrocession(1, months, value), &[]);
+            assert_eq!(report(&book).charge(), charge);
+        }
+    }
+}
+
+/// VAF and VAF′ 1,000 and 100 in each tier: 15, 14 and 13 stand between g and e, and cascade.
+#[test]
+fn c11_all_sixteen_tiers() {
+    let report = report(&sixteen_tiers(1, 100, 1_000));
+    assert_eq!(
+        report.printed(),
+        "1 0 100 25 25 75\n\
+         1 1 100 25 0 100\n\
+         1 4 100 42 17 83\n\
+         1 2 100 50 8 92\n\
+         1 3 100 50 0 100\n\
+         1 5 100 82 32 68\n\
+         1 6 100 125 43 57\n\
+         1 15 100 170 45 55\n\
+         1 14 100 330 160 0\n\
+         1 13 100 500 230 0\n\
+         1 7 100 680000000 679999630 0\n\
+         1 8 100 1320000000 1319999530 0\n\
+         1 9 100 2000000000 1999999430 0\n\
+         1 10 100 2000000000 1999999330 0\n\
+         1 11 100 2000000000 1999999230 0\n\
+         1 12 100 2000000000 1999999130 0\n\
+         charge 804\n"
+    );
+    assert!(report.lines().iter().all(|line| line.set == 65_535));
+    // 25, 50, 42, 82 and 100 of tiers 1 and 3 to 6, over an A3 limit of 125.
+    assert_eq!(report.a3_sum(), 299);
+}
+
+/// T8's three reinsurers as retrocessionaires: A3 counts them from month 24 on, in tier 1.
+#[test]
+fn c11_a3_counts_no_retrocession() {
+    for (grade, months, a3_sum, charge) in [
+        (1, 0, 0, 0),
+        (1, 255, 0, 0),
+        (0, 2, 0, 0),
+        (0, 3, 0, 0),
+        (0, 23, 0, 0),
+        (0, 24, 750_000_000, 1_050_000_000),
+    ] {
+        let mut book = specialist(TOTAL, BASE);
+        for place in 1..=3 {
+            book.counterparty(RawCounterparty { grade, ..Default::default() });
+            book.asset(retrocession(place, months, 600_000_000), &[]);
+        }
+        let report = report(&book);
+        assert_eq!((report.a3_sum(), report.charge()), (a3_sum, charge));
+    }
+}
+
+/// T9's asset as a retrocession: half may be covered, but for an approved affiliate or registered
+/// company, and the remainder is in the retrocession's own tier.
+#[test]
+fn c11_half_may_be_covered() {
+    for (kind, flags, covered) in [(0, 0, 50), (0, 2, 101), (4, 0, 101)] {
+        for (months, tier) in [(0, 13), (3, 14), (12, 15), (24, 1)] {
+            let mut book = specialist(TOTAL, BASE);
+            book.counterparty(RawCounterparty { kind, flags, ..Default::default() });
+            book.counterparty(RawCounterparty { kind: 1, grade: 1, ..Default::default() });
+            let letter = RawMitigant { form: 5, flags: 8, counterparty: 2, value: 101 };
+            book.asset(retrocession(1, months, 101), &[letter]);
+            let lines = report(&book).lines();
+            let of = |top| lines.iter().find(|line| line.top == top);
+            let bank = of(2).map(|line| (line.tier, line.amounts[0]));
+            assert_eq!(bank, Some((11, covered)));
+            let remainder = of(1).map(|line| (line.tier, line.amounts[0]));
+            assert_eq!(remainder, Some((tier, 101 - covered)).filter(|_| covered < 101));
+        }
+    }
+}
+
+/// A specialist fund's book and report are no larger than another's.
+#[test]
+fn c11_the_largest_report() {
+    let book = largest_specialist_book();
+    assert_eq!(book.bytes().len(), LARGEST_BOOK);
+    let report = report(&book);
+    assert_eq!(report.bytes.len(), LARGEST_REPORT);
+    assert_eq!(tiers(&report).iter().filter(|&&tier| tier == 13).count(), 500);
+}
