@@ -3,7 +3,7 @@
 --   together drawnBy       what they cover together
 --   leftFrom               a table's entry for each asset, less what its mitigants cover
 --   heldBy holdingAt       how many mitigants holdings have; the holding at a place, whose first mitigant is the one at `first`
---   covered-length covered-size left-size    laws: a number for each mitigant, a number for each asset
+--   mitigants-length covered-length covered-size left-size    laws: how many mitigants are read; a number for each mitigant, a number for each asset
 use mathlib.Core.List.{List, [], _∷_}
 use mathlib.Core.Path.{_≡_, refl, ap, _∙_}
 use Prim.Native.Nat.{ℕ, zero, suc, _+_, _-_}
@@ -49,7 +49,7 @@ unfolding coveredBy
 covered-by-length cs a [] still = refl
 covered-by-length cs a (m ∷ ms) still = ap suc (covered-by-length cs a ms _)
 
-mitigants-length : (b : List ℕ) (count first : ℕ) → length (mitigantsFrom b first count) ≡ count
+pub mitigants-length : (b : List ℕ) (count first : ℕ) → length (mitigantsFrom b first count) ≡ count
 unfolding mitigantsFrom
 mitigants-length b zero first = refl
 mitigants-length b (suc count) first = ap suc (mitigants-length b count (first + 1))

@@ -17,14 +17,12 @@ use Rattle.refusal.specs.Chain.{refuse_unless_, _andThen_, answerBy}
 use Rattle.refusal.specs.Laws.{then-first, then-rest}
 use Rattle.book.specs.Book.{bookOf}
 use Rattle.book.specs.Check.{bookCheck}
-use Rattle.book.specs.AcceptedLaws.{accepted}
 use Rattle.exposure.specs.Values.{fundCheck}
-use Rattle.figures.proofs.Size.{report-long, lines-most}
 use Rattle.schedule.specs.Check.{scheduleCheck}
 use Rattle.schedule.specs.Schedule.{scheduleSize, published, scheduleBytes}
 use Rattle.schedule.specs.PublishedLaws.{published-length}
-use Rattle.fund.specs.Figures.{fundOf}
-use Rattle.report.specs.Answer.{fundIn, reportOf, checkOf, answerOf, writtenBy, Answered}
+use Rattle.report.specs.Answer.{reportOf, checkOf, answerOf, writtenBy, Answered}
+use Rattle.weightrose.specs.Most.{report-most}
 use Rattle.weightrose.specs.Exported.{packed, Apart, Reported, Published}
 
 -- no refusal has the number 0
@@ -47,13 +45,9 @@ numbered StressedAssets = omega arith
 numbered BufferShort = omega arith
 numbered (SpecialistEntry p) = omega arith
 
--- a report of a book that the checks let pass has at most 500 groups of 16 lines
+-- a report of a book that the checks let pass has at most 2,400 lines
 few : (schedule book : List ℕ) → bookCheck book ≡ Fine → length (reportOf schedule book) < 4294967296
-unfolding reportOf fundIn fundOf bookOf
-few schedule book e =
-    let F = fundIn schedule book in
-    let a = accepted book e in
-    omega (arith, report-long F, lines-most F, a .counterparties)
+few schedule book e = omega (arith, report-most schedule book e)
 
 apart : (schedule book : List ℕ) (n : ℕ) → Apart (answerOf schedule book n) (packed (answerOf schedule book n))
 unfolding answerOf checkOf
