@@ -1,11 +1,14 @@
 -- Tiers, computed: each one reached, each condition failed, and the months at both sides of each step.
 -- A counterparty's flags: 1 related, 2 approved affiliate, 4 second limb. 16 is no limit.
+use mathlib.Core.Bool.{Bool, true, _&&_, _||_}
 use mathlib.Core.List.{List, [], _∷_, map}
 use mathlib.Core.Path.{_≡_, refl}
 use Prim.Native.Nat.{ℕ}
-use lib.ListN.{replicate}
+use Rattle.words.specs.Words.{_<?_, _=?_, if_then_else_, every}
+use Rattle.words.specs.Below.{allBelow}
 use Rattle.book.specs.declared.Kind.the-variants.{Other, Bank, HomeGovernment, ProvincialGovernment, LifeCompany}
 use Rattle.book.specs.declared.Counterparty.{Counterparty}
+use Rattle.book.specs.Records.{kindOf}
 use Rattle.exposure.specs.Tier.{tierBy}
 use Rattle.exposure.specs.Examples.{opened, party}
 
@@ -64,18 +67,34 @@ no-entry-cases : aged 0 0 (party LifeCompany 0 6) ∷ aged 0 0 (party Other 7 0)
 unfolding opened
 no-entry-cases = refl
 
--- entry 3, graded: tier 13 with each kind and flags that would otherwise give e, g or h, whatever the months
-retroceded-graded-cases :
-    map {B = List ℕ} (λ who. map {B = ℕ} (λ m. aged 3 m who) (0 ∷ 2 ∷ 3 ∷ 11 ∷ 12 ∷ 23 ∷ 24 ∷ 255 ∷ []))
-    (party LifeCompany 1 0 ∷ party LifeCompany 3 2 ∷ party Other 2 4 ∷ party LifeCompany 1 5 ∷ party Other 1 2 ∷ party Bank 3 3 ∷ party LifeCompany 1 1 ∷ party LifeCompany 2 3 ∷ party HomeGovernment 1 0 ∷ party ProvincialGovernment 1 1 ∷ [])
-    ≡ replicate 10 (replicate 8 13)
-unfolding opened
+-- ---- entry 3 (C-11), with every kind and flags
+
+-- both sides of each step of the months
+abbrev steps : List ℕ
+steps = 0 ∷ 2 ∷ 3 ∷ 11 ∷ 12 ∷ 23 ∷ 24 ∷ 255 ∷ []
+
+-- a test of every kind, by its number, and of all flags
+eachSort : (ℕ → ℕ → Bool) → Bool
+eachSort test = allBelow 5 (λ kind. allBelow 8 (test kind))
+
+-- graded, 1 to 3: e, g or h without an entry; tier 13 with entry 3 whatever the months
+overrides : ℕ → ℕ → Bool
+overrides kind flags =
+    every (λ grade.
+    let who = party (kindOf kind) grade flags in
+    let without = aged 0 0 who in
+    (without =? 9 || without =? 6 || without =? 3) && every (λ m. aged 3 m who =? 13) steps) (1 ∷ 2 ∷ 3 ∷ [])
+
+-- ungraded, 0 and 4 to 7: tier 13 for months 0 to 2, 14 for 3 to 11, 15 for 12 to 23, otherwise 1
+ages : ℕ → ℕ → Bool
+ages kind flags =
+    every (λ grade. every (λ m. aged 3 m (party (kindOf kind) grade flags) =? (if m <? 3 then 13 else if m <? 12 then 14 else if m <? 24 then 15 else 1)) steps)
+    (0 ∷ 4 ∷ 5 ∷ 6 ∷ 7 ∷ [])
+
+retroceded-graded-cases : eachSort overrides ≡ true
+unfolding opened eachSort overrides allBelow every
 retroceded-graded-cases = refl
 
--- entry 3, ungraded: tier 13 for months 0 to 2, 14 for 3 to 11, 15 for 12 to 23, otherwise 1; whatever kind and flags, grades 0 and 4 to 7
-retroceded-ungraded-cases :
-    map {B = List ℕ} (λ who. map {B = ℕ} (λ m. aged 3 m who) (0 ∷ 2 ∷ 3 ∷ 11 ∷ 12 ∷ 23 ∷ 24 ∷ 255 ∷ []))
-    (party LifeCompany 0 0 ∷ party LifeCompany 4 2 ∷ party Other 7 4 ∷ party LifeCompany 5 5 ∷ party Other 6 2 ∷ party Bank 0 3 ∷ party LifeCompany 0 1 ∷ party Other 4 0 ∷ [])
-    ≡ replicate 8 (13 ∷ 13 ∷ 14 ∷ 14 ∷ 15 ∷ 15 ∷ 1 ∷ 1 ∷ [])
-unfolding opened
+retroceded-ungraded-cases : eachSort ages ≡ true
+unfolding opened eachSort ages allBelow every
 retroceded-ungraded-cases = refl
