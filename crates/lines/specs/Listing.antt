@@ -12,19 +12,19 @@ use mathlib.Core.List.{List, [], _∷_, map}
 use Prim.Native.Nat.{ℕ, _+_, _*_, _/_, _%_}
 use lib.ListN.{getD, set, take}
 use Rattle.words.specs.Words.{_<?_, _=?_, if_then_else_, eachOf, those, countFrom}
-use Rattle.cascade.specs.Cascade.{byTier, leftAt, excessAt, next}
+use Rattle.cascade.specs.Cascade.{tiers, byTier, leftAt, excessAt, next}
 use Rattle.figures.specs.declared.Line.{Line}
 use Rattle.rows.specs.Rows.{columns}
 
 -- tier t of group number k
 abbrev pub entry : ℕ → ℕ → ℕ
-entry k t = 16 * k + t
+entry k t = tiers * k + t
 
 abbrev pub groupIn : ℕ → ℕ
-groupIn e = e / 16
+groupIn e = e / tiers
 
 abbrev pub tierIn : ℕ → ℕ
-tierIn e = e % 16
+tierIn e = e % tiers
 
 abbrev pub exposureIn : List ℕ → ℕ → ℕ
 exposureIn cells e = getD cells (columns * groupIn e + tierIn e) 0

@@ -21,9 +21,6 @@ pub const HEAD: usize = 72;
 
 pub const LINE: usize = 40;
 
-// An entry of the list is so much for each group before its own, and its tier.
-const SPAN: usize = 16;
-
 // No group has this number.
 const NONE: usize = 65535;
 
@@ -89,7 +86,7 @@ fn put_head(d: &mut [u8], head: Head)
     );
 }
 
-// The entries of group number k's lines, put into list from `at` on along the ranking; the set of the group's tiers.
+// The entries of group number k's lines (TIERS * k and the tier), put into list from `at` on along the ranking; the set of the group's tiers.
 // Every tier is put at the place reached, which moves on where the exposure is above 0: no branch on an exposure.
 fn list_group(
     list: &mut [u16],
@@ -107,7 +104,7 @@ fn list_group(
     while i < TIERS {
         let t = ranking[i];
         let some = choice::one(0 < exposures[t]);
-        list[place] = (SPAN * k + t) as u16;
+        list[place] = (TIERS * k + t) as u16;
         place += some as usize;
         set += some << (t as u64);
         i += 1;
@@ -157,8 +154,8 @@ fn put_list(
     let mut i = 0;
     while i < lines {
         let entry = list[i] as usize;
-        let k = entry / SPAN;
-        let t = entry % SPAN;
+        let k = entry / TIERS;
+        let t = entry % TIERS;
         let under = choice::amount(k == last, standing, 0);
         let exposure = cells[COLUMNS * k + t];
         let limit = limits[t];
