@@ -3,6 +3,7 @@
 # make library         target/staticlib/libweightrose.a
 # make install         library, header and pkg-config file below PREFIX
 # make compare-long    a million inputs against the second implementation
+# make compare-before  the same inputs as the tests' against another build of the library, BEFORE_LIB=..
 # make bench           times of the library, of the second implementation and of a yardstick
 .PHONY: demo test library clean
 

@@ -1,5 +1,5 @@
 //! Links the static library: the folder WEIGHTROSE_LIB_DIR, or ../target/staticlib.
-//! Where YARDSTICK_LIB names a static library with `peer_report`, the benchmark links that too.
+//! Where YARDSTICK_LIB names a static library with `peer_report`, that one is linked too.
 
 use std::env;
 use std::path::{Path, PathBuf};
@@ -28,5 +28,5 @@ fn link_yardstick() {
     };
     println!("cargo:rerun-if-changed={}", library.to_string_lossy());
     println!("cargo:rustc-cfg=yardstick");
-    println!("cargo:rustc-link-arg-bin=bench={}", library.to_string_lossy());
+    println!("cargo:rustc-link-arg-bins={}", library.to_string_lossy());
 }

@@ -7,6 +7,8 @@
 #     tests-c         the C ledger: as C99, as C++, under valgrind and the sanitizers
 #     tests-install   the C ledger against an installed library
 #     compare-long    the comparison on a million inputs (LONG_INPUTS, SEED)
+#     compare-before  the library against another build of it, BEFORE_LIB=.., in place of the second
+#                     implementation: every answer and every byte lent
 #     bench           times of the library and of the second implementation; with YARDSTICK_LIB=..,
 #                     a static library that has peer_report, of that one too
 #
@@ -16,6 +18,7 @@ TESTS_MAKEFILE := $(firstword $(MAKEFILE_LIST))
 WEIGHTROSE_LIB ?= target/staticlib/libweightrose.a
 TESTS_OUT := target/tests
 YARDSTICK_LIB ?=
+BEFORE_LIB ?=
 LONG_INPUTS ?= 1000000
 SEED ?= 20230701
 
@@ -29,7 +32,7 @@ SANITIZE := -fsanitize=address,undefined -fno-sanitize-recover=all
 LEDGER := tests/c/ledger.c
 LEDGER_NEEDS := $(LEDGER) include/weightrose.h $(WEIGHTROSE_LIB)
 
-.PHONY: tests tests-rust tests-c tests-install compare-long bench
+.PHONY: tests tests-rust tests-c tests-install compare-long compare-before bench
 
 tests: tests-rust tests-c tests-install
 
@@ -40,6 +43,16 @@ tests-rust: $(WEIGHTROSE_LIB)
 compare-long: $(WEIGHTROSE_LIB)
 	$(CARGO_ENV) $(CARGO) run $(CARGO_FLAGS) --profile checked --bin compare -- \
 	    --inputs $(LONG_INPUTS) --seed $(SEED)
+
+# The other build's names are changed, so that both can be linked.
+compare-before: $(WEIGHTROSE_LIB)
+	@test -f '$(BEFORE_LIB)' || { echo 'compare-before: BEFORE_LIB= names no library' >&2; exit 2; }
+	mkdir -p $(TESTS_OUT)
+	objcopy --redefine-sym weightrose_report=peer_report \
+	    --redefine-sym weightrose_published=peer_published $(BEFORE_LIB) $(TESTS_OUT)/libbefore.a
+	$(CARGO_ENV) YARDSTICK_LIB=$(abspath $(TESTS_OUT)/libbefore.a) \
+	    $(CARGO) run $(CARGO_FLAGS) --profile checked --bin compare -- \
+	    --against yardstick --seed $(SEED)
 
 bench: $(WEIGHTROSE_LIB)
 	$(CARGO_ENV) YARDSTICK_LIB=$(abspath $(YARDSTICK_LIB)) \

@@ -6,6 +6,7 @@
 //! - `inputs`: what the two are compared on
 //! - `compare`: one comparison, of the answer and of every byte lent
 //! - `cases`: the library's reports by their fields, for the documents' own cases
+//! - `yardstick`: another static library, where the build was given one
 
 pub mod cases;
 pub mod compare;
@@ -14,3 +15,5 @@ pub mod random;
 pub mod raw;
 pub mod second;
 pub mod weightrose;
+#[cfg(yardstick)]
+pub mod yardstick;

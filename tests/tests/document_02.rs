@@ -1,10 +1,14 @@
 //! Document 02's requests through the library, with their figures and both sides of each of their
-//! boundaries: C-11, specialist reinsurers.
+//! boundaries: C-11, specialist reinsurers; C-12, lines straight into the lent report.
 
 use weightrose_tests::cases::{refusal, refused_book, report, report_under, Report};
-use weightrose_tests::inputs::{largest_specialist_book, sample, sixteen_tiers};
+use weightrose_tests::inputs::{
+    largest_report_book, largest_specialist_book, sample, sixteen_tiers,
+};
 use weightrose_tests::raw::*;
-use weightrose_tests::weightrose::{published, Refusal, LARGEST_BOOK, LARGEST_REPORT};
+use weightrose_tests::weightrose::{
+    packed_report, published, Refusal, LARGEST_BOOK, LARGEST_REPORT, LINE,
+};
 
 const TOTAL: u64 = 10_000_000_000;
 const BASE: i64 = 1_000_000_000;
@@ -358,4 +362,23 @@ fn c11_the_largest_report() {
     let report = report(&book);
     assert_eq!(report.bytes.len(), LARGEST_REPORT);
     assert_eq!(tiers(&report).iter().filter(|&&tier| tier == 13).count(), 500);
+}
+
+/// Whatever stands in the buffer, wherever it begins and however long it is: the same report, and
+/// every byte beside it as it was.
+#[test]
+fn c12_lines_change_their_own_bytes_alone() {
+    for book in [RawBook::empty(TOTAL, BASE, 0), sample(), largest_report_book()] {
+        let wanted = report(&book).bytes;
+        for filling in [0x00, 0xff, 0x5a] {
+            for (start, behind) in [(0, 0), (1, 1), (3, LINE - 1), (7, LINE), (5, LINE + 1)] {
+                let end = start + wanted.len();
+                let mut area = vec![filling; end + behind + 1];
+                let lent = &mut area[start..end + behind];
+                assert_eq!(packed_report(&published(), &book.bytes(), lent), wanted.len() as u64);
+                assert!(area[start..end] == wanted);
+                assert!(area[..start].iter().chain(&area[end..]).all(|&byte| byte == filling));
+            }
+        }
+    }
 }

@@ -5,7 +5,7 @@ use weightrose_tests::compare::{compare, library, second, Lent, Subject, GUARD};
 use weightrose_tests::inputs::{sample, Input, Inputs};
 use weightrose_tests::raw::RawSchedule;
 use weightrose_tests::second::{report_by, Slip};
-use weightrose_tests::weightrose::{report, Answer, Refusal, HEADER, LARGEST_REPORT};
+use weightrose_tests::weightrose::{report, Answer, Refusal, HEADER, LARGEST_REPORT, LINE};
 
 const SEED: u64 = 117;
 const SEEDED: usize = 20_000;
@@ -75,6 +75,45 @@ fn bytes_written_out_of_place_are_caught() {
         })
     };
     is_caught("a byte changed by a refusal", by_refusal);
+}
+
+/// C-12: what a part that puts a line could do beside that, and what a buffer between would.
+#[test]
+fn lines_put_out_of_place_are_caught() {
+    type Spoil = fn(&[u8], &mut [u8]);
+    let slips: [(&str, Spoil); 5] = [
+        ("a byte before the line", |_, report| report[HEADER - 1] ^= 1),
+        ("two zero bytes left as they were", |before, report| {
+            report[HEADER + 6..HEADER + 8].copy_from_slice(&before[HEADER + 6..HEADER + 8]);
+        }),
+        ("lines one byte early", |before, report| {
+            report.copy_within(HEADER.., HEADER - 1);
+            *report.last_mut().unwrap() = before[report.len() - 1];
+        }),
+        ("lines one byte late", |before, report| {
+            report.copy_within(HEADER..report.len() - 1, HEADER + 1);
+            report[HEADER] = before[HEADER];
+        }),
+        ("the line before once more", |_, report| {
+            if HEADER + LINE < report.len() {
+                report.copy_within(HEADER..HEADER + LINE, HEADER + LINE);
+            }
+        }),
+    ];
+    for (name, spoil) in slips {
+        let wrong: Subject = &|schedule, book, lent| {
+            let before = lent.buffer().to_vec();
+            let packed = second(schedule, book, lent);
+            match Answer::unpacked(packed) {
+                Some(Answer::Report(length)) if HEADER < length => {
+                    spoil(&before, &mut lent.buffer()[..length]);
+                }
+                _ => {}
+            }
+            packed
+        };
+        is_caught(name, wrong);
+    }
 }
 
 /// Document 01's stand-ins that are not slips of one sentence.

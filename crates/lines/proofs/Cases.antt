@@ -1,15 +1,18 @@
--- T2 of document 01 as a table of two groups, the first without exposures: its lines, the list of their entries, and the lines along the list.
+-- T2 of document 01 as a table of two groups, the first without exposures: its lines, the list of their entries, the lines along the list, and
+-- its second line put between other bytes.
 use mathlib.Core.Path.{_≡_, refl}
-use mathlib.Core.List.{List, [], _∷_}
+use mathlib.Core.List.{List, [], _∷_, _++_}
 use Prim.Native.Nat.{ℕ}
+use lib.ListN.{replicate}
 use Rattle.words.specs.Words.{sum, eachOf, those, countFrom}
 use Rattle.cascade.specs.Cascade.{tiers, byTier, byLimit, ranks, insert, ranked, next, standing, left, excess, excessSum}
 use Rattle.figures.specs.declared.Line.{Line}
 use Rattle.figures.specs.declared.Figures.{Figures}
-use Rattle.figures.specs.Report.{tierSet, lineOf, cellLines, linesOf, groupExcess, charge}
+use Rattle.figures.specs.Report.{lineBytes, tierSet, lineOf, cellLines, linesOf, groupExcess, charge}
 use Rattle.rows.specs.Rows.{row}
 use Rattle.lines.specs.Table.{setOf, tableFund}
 use Rattle.lines.specs.Listing.{shown, allEntries, entriesOf, tried, Source, entryLine, linesAlong, listedLines}
+use Rattle.lines.specs.Promise.{LinePut}
 
 abbrev table : Source
 table =
@@ -28,11 +31,14 @@ figures = record { vaf = 10000000000; «stressed_vaf» = 10000000000; «all_net�
 abbrev order : List ℕ
 order = ranked (byLimit (byTier (table .limits))) tiers
 
+abbrev first : Line
+first = record { top = 3; tier = 0; tiers = 5; exposure = 300000000; limit = 250000000; left = 250000000; excess = 50000000 }
+
+abbrev second : Line
+second = record { top = 3; tier = 2; tiers = 5; exposure = 300000000; limit = 500000000; left = 250000000; excess = 50000000 }
+
 abbrev lines : List Line
-lines =
-    record { top = 3; tier = 0; tiers = 5; exposure = 300000000; limit = 250000000; left = 250000000; excess = 50000000 }
-    ∷ record { top = 3; tier = 2; tiers = 5; exposure = 300000000; limit = 500000000; left = 250000000; excess = 50000000 }
-    ∷ []
+lines = first ∷ second ∷ []
 
 t2-lines : linesOf (tableFund (table .limits) (table .cells) (table .heads) 4 2 figures) ≡ lines
 unfolding ranks insert ranked next standing left excess sum eachOf countFrom tierSet lineOf cellLines row tableFund
@@ -47,3 +53,18 @@ t2-charge :
     × (charge (tableFund (table .limits) (table .cells) (table .heads) 4 2 figures) ≡ 100000002)
 unfolding ranks insert ranked next standing left excess excessSum sum groupExcess charge row setOf tableFund
 t2-charge = (refl, refl, refl)
+
+-- among bytes of 7: those before the line and the one behind it stay, its own are put over the others, the zeros too
+t2-put :
+    LinePut second 2
+    (7 ∷ 7 ∷ replicate 40 7 ++ (7 ∷ []))
+    (7 ∷ 7
+    ∷ 3 ∷ 0 ∷ 2 ∷ 0 ∷ 5 ∷ 0 ∷ 0 ∷ 0
+    ∷ 0 ∷ 163 ∷ 225 ∷ 17 ∷ 0 ∷ 0 ∷ 0 ∷ 0
+    ∷ 0 ∷ 101 ∷ 205 ∷ 29 ∷ 0 ∷ 0 ∷ 0 ∷ 0
+    ∷ 128 ∷ 178 ∷ 230 ∷ 14 ∷ 0 ∷ 0 ∷ 0 ∷ 0
+    ∷ 128 ∷ 240 ∷ 250 ∷ 2 ∷ 0 ∷ 0 ∷ 0 ∷ 0
+    ∷ 7 ∷ [])
+    42
+unfolding lineBytes
+t2-put = record { there = refl; earlier = refl; later = refl; place = refl }

@@ -1,4 +1,5 @@
--- What `list_lines` and `put_report` start from and promise.
+-- What `put_line`, `list_lines` and `put_report` start from and promise.
+--   LinePut        a line is put, and nothing else changes
 --   Once           every tier once
 --   Listable       what a listing starts from
 --   Listed         the number of lines, the sets of the groups' tiers, and the list of entries
@@ -15,11 +16,20 @@ use lib.ListN.{length, getD, take, drop}
 use Rattle.words.specs.Words.{sum, sumOf, countFrom, All}
 use Rattle.wire.specs.Bytes.{M, placed}
 use Rattle.cascade.specs.Cascade.{tiers, byTier, byLimit, ranked}
+use Rattle.figures.specs.declared.Line.{Line}
 use Rattle.figures.specs.declared.Figures.{Figures}
-use Rattle.figures.specs.Report.{headSize, lineSize, linesOf, report}
+use Rattle.figures.specs.Report.{headSize, lineSize, lineBytes, linesOf, report}
 use Rattle.rows.specs.Rows.{mostGroups, columns, row}
 use Rattle.lines.specs.Table.{setOf, Heads, tableFund}
 use Rattle.lines.specs.Listing.{groupIn, tierIn, exposureIn, shown, allEntries, entriesOf, tried, Source}
+
+-- C-12: "each line put straight into the lent report, with no buffer between, by a part shown to change only that line's 40 bytes".
+-- The line's bytes stand at the place, those before it and those behind it are as they were, and r is the place behind it.
+pub record LinePut (line : Line) (at : ℕ) (before after : List ℕ) (r : ℕ) : Type 0 where
+  pub there : take lineSize (drop at after) ≡ lineBytes line
+  pub earlier : take at after ≡ take at before
+  pub later : drop (at + lineSize) after ≡ drop (at + lineSize) before
+  pub place : r ≡ at + lineSize
 
 -- every tier below n stands in the ranking once, and nothing else
 pub record Once (n : ℕ) (ranking : List ℕ) : Type 0 where

@@ -12,10 +12,10 @@ ghost use Rattle.words.specs.Words.{_<?_, sumOf};
 ghost use Rattle.wire.specs.Bytes.{bytes64, placed};
 ghost use Rattle.cascade.specs.Cascade.{tiers, byTier};
 ghost use Rattle.rows.specs.Rows.{mostGroups};
-ghost use Rattle.figures.specs.Report.{headSize, lineSize, joined, lineBytes, headBytes};
+ghost use Rattle.figures.specs.Report.{headSize, lineSize, joined, headBytes};
 ghost use Rattle.lines.specs.Table.{setOf};
 ghost use Rattle.lines.specs.Listing.{entry, tierIn, tried, source, listedLines};
-ghost use Rattle.lines.specs.Promise.{Once, Listable, Listed, Entries, Ready, Reported};
+ghost use Rattle.lines.specs.Promise.{LinePut, Once, Listable, Listed, Entries, Ready, Reported};
 
 pub const HEAD: usize = 72;
 
@@ -35,10 +35,10 @@ fn put_four(d: &mut [u8], at: usize, a: u64, b: u64, c: u64, e: u64)
     wire::put_u64(d, at + 24, e);
 }
 
-// A line. No byte beside its 40 changes.
-fn put_line(d: &mut [u8], at: usize, line: Line)
+// A line, straight into the report: its 40 bytes, and no byte beside them. The place behind it.
+fn put_line(d: &mut [u8], at: usize, line: Line) -> usize
     requires { ⌜ at + lineSize ≤ length (now d) ⌝ }
-    ensures { λ _. ⌜ now (d .exit) ≡ placed (now (d .entry)) at (lineBytes line) ⌝ }
+    ensures { λ r. ⌜ LinePut line at (now (d .entry)) (now (d .exit)) r ⌝ }
 {
     wire::put_u16(d, at, line.top);
     wire::put_u8(d, at + 2, line.tier);
@@ -46,6 +46,7 @@ fn put_line(d: &mut [u8], at: usize, line: Line)
     wire::put_u16(d, at + 4, line.tiers);
     wire::put_u16(d, at + 6, 0);
     put_four(d, at + 8, line.exposure, line.limit, line.left, line.excess);
+    at + LINE
 }
 
 // "ACR", zero, version 1.
@@ -151,6 +152,7 @@ fn put_list(
     let mut excesses: u64 = 0;
     let mut standing: u64 = 0;
     let mut last = NONE;
+    let mut place = HEAD;
     let mut i = 0;
     while i < lines {
         let entry = list[i] as usize;
@@ -169,7 +171,7 @@ fn put_list(
             left: cut.left,
             excess: cut.excess,
         };
-        put_line(d, HEAD + LINE * i, line);
+        place = put_line(d, place, line);
         standing = cut.standing;
         excesses += cut.excess;
         last = k;

@@ -11,6 +11,8 @@ use std::time::{Duration, Instant};
 use weightrose_tests::inputs::{lifelike, Parents, Shape};
 use weightrose_tests::random::Random;
 use weightrose_tests::weightrose::{packed_report, published, Answer, LARGEST_REPORT};
+#[cfg(yardstick)]
+use weightrose_tests::yardstick;
 use weightrose_tests::{second, weightrose};
 
 /// Books of each shape, so that no call meets the book of the call before.
@@ -37,34 +39,6 @@ fn subjects() -> Vec<Subject> {
     #[cfg(yardstick)]
     subjects.push(Subject { name: "yardstick", report: yardstick::report, every: 1 });
     subjects
-}
-
-#[cfg(yardstick)]
-mod yardstick {
-    extern "C" {
-        fn peer_report(
-            schedule: *const u8,
-            schedule_len: usize,
-            book: *const u8,
-            book_len: usize,
-            report: *mut u8,
-            report_len: usize,
-        ) -> u64;
-    }
-
-    pub fn report(schedule: &[u8], book: &[u8], buffer: &mut [u8]) -> u64 {
-        // SAFETY: each pointer is that of a slice and stands beside the slice's length.
-        unsafe {
-            peer_report(
-                schedule.as_ptr(),
-                schedule.len(),
-                book.as_ptr(),
-                book.len(),
-                buffer.as_mut_ptr(),
-                buffer.len(),
-            )
-        }
-    }
 }
 
 struct Case {

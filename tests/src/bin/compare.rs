@@ -2,12 +2,13 @@
 //!
 //!     compare [--inputs N] [--seed S]            N inputs (55,000 unless said) under the seed S
 //!     compare --only I [--seed S] [--dump FILE]  input I alone; FILE gets its schedule and book
+//!     compare --against yardstick ..             with the static library that the build was given
 //!
 //! Ends with status 1 on the first difference, or where a refusal or a tier was not met at all.
 
 use std::process::ExitCode;
 use std::time::Instant;
-use weightrose_tests::compare::{compare, library, second, Outcome, GUARD};
+use weightrose_tests::compare::{compare, library, second, Lent, Outcome, GUARD};
 use weightrose_tests::inputs::{Input, Inputs};
 use weightrose_tests::weightrose::{Answer, HEADER, LINE};
 
@@ -37,10 +38,34 @@ struct Options {
     seed: u64,
     only: Option<usize>,
     dump: Option<String>,
+    against: Other,
+}
+
+/// What the library is compared with.
+struct Other {
+    name: &'static str,
+    subject: fn(&[u8], &[u8], &mut Lent) -> u64,
+}
+
+const SECOND: Other = Other { name: "second implementation", subject: second };
+
+fn other(name: &str) -> Result<Other, String> {
+    match name {
+        "second" => Ok(SECOND),
+        #[cfg(yardstick)]
+        "yardstick" => Ok(Other {
+            name: "the one linked beside it",
+            subject: |schedule, book, lent| {
+                weightrose_tests::yardstick::report(schedule, book, lent.buffer())
+            },
+        }),
+        _ => Err(format!("nothing that is called {name} was linked")),
+    }
 }
 
 fn options() -> Result<Options, String> {
-    let mut options = Options { inputs: 55_000, seed: 20_230_701, only: None, dump: None };
+    let mut options =
+        Options { inputs: 55_000, seed: 20_230_701, only: None, dump: None, against: SECOND };
     let mut words = std::env::args().skip(1);
     while let Some(word) = words.next() {
         let value = words.next().ok_or(format!("{word} needs a value"))?;
@@ -50,6 +75,7 @@ fn options() -> Result<Options, String> {
             "--seed" => options.seed = number()?,
             "--only" => options.only = Some(number()? as usize),
             "--dump" => options.dump = Some(value),
+            "--against" => options.against = other(&value)?,
             _ => return Err(format!("unknown option {word}")),
         }
     }
@@ -97,6 +123,7 @@ impl Met {
 
 fn run(inputs: &Inputs, options: &Options) -> Result<Met, String> {
     let mut met = Met::default();
+    let other = options.against.subject;
     let numbers = match options.only {
         Some(number) => number..number + 1,
         None => 0..options.inputs,
@@ -107,7 +134,7 @@ fn run(inputs: &Inputs, options: &Options) -> Result<Met, String> {
             let bytes = [&input.schedule[..], &input.book[..]].concat();
             std::fs::write(file, bytes).map_err(|error| format!("{file}: {error}"))?;
         }
-        let outcome = compare(&library, &second, &input).map_err(|difference| {
+        let outcome = compare(&library, &other, &input).map_err(|difference| {
             let seed = options.seed;
             format!("input {number} ({}, --seed {seed} --only {number}): {difference}", input.name)
         })?;
@@ -120,7 +147,7 @@ fn main() -> ExitCode {
     let outcome = options().and_then(|options| {
         let start = Instant::now();
         let inputs = Inputs::new(options.seed);
-        println!("library and second implementation, seed {}", options.seed);
+        println!("library and {}, seed {}", options.against.name, options.seed);
         let met = run(&inputs, &options)?;
         met.print();
         let (count, seconds) = (options.inputs, start.elapsed().as_secs_f64());

@@ -1,10 +1,11 @@
--- `put_line` meets its contract: its parts, each placed behind the others.
+-- `put_line` meets its contract: its parts, each placed behind the others, are the line's bytes.
 use mathlib.Core.Path.{refl}
 use mathlib.Core.List.{_++_, _∷_, []}
 use native.Mathlib.Omega.{arith}
 use Rattle.wire.specs.Bytes.{bytes16, bytes64}
 use Rattle.wire.proofs.Laws.{then-placed}
 use Rattle.figures.specs.Report.{lineBytes}
+use Rattle.lines.proofs.Putting.{line-put}
 use borrow.Author.Needs.{needs}
 use Rattle.lines.proofs.put_line.Statement.{statement}
 use Rattle.lines.proofs.put_line.Tie as tie
@@ -31,7 +32,7 @@ returns c =
     let e3 = then-placed d p2 (0 ∷ []) at 3 e2 (c3 .put-u82 .ensures) refl (omega (arith, s .pre)) in
     let e4 = then-placed d p3 (bytes16 (x .tiers)) at 4 e3 (c4 .put-u162 .ensures) refl (omega (arith, s .pre)) in
     let e5 = then-placed d p4 (bytes16 0) at 6 e4 (c5 .put-u163 .ensures) refl (omega (arith, s .pre)) in
-    then-placed d p5 four at 8 e5 (c6 .put-four .ensures) refl (omega (arith, s .pre))
+    line-put x at d (omega (arith, s .pre)) (then-placed d p5 four at 8 e5 (c6 .put-four .ensures) refl (omega (arith, s .pre)))
 
 pub put-line-spec : {M : Type 1} → statement M
 put-line-spec =
@@ -48,5 +49,6 @@ put-line-spec =
     (λ c κs. search needs)
     (λ c. search needs)
     (λ c κs. search needs)
+    (λ c. search needs)
     (λ c. search needs)
     returns)

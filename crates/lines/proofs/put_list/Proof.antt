@@ -14,22 +14,23 @@ use Rattle.figures.specs.Report.{headSize, lineSize, lineBytes, joined}
 use Rattle.figures.proofs.Back.{line-long}
 use Rattle.lines.specs.Listing.{groupIn, exposureIn, Source, source, before, entryLine, linesAlong, noGroup, listedLines}
 use Rattle.lines.specs.Promise.{Inside}
-use Rattle.lines.proofs.Putting.{Putting, put-start, put-piece, put-end}
+use Rattle.lines.proofs.Putting.{Putting, put-start, put-piece, put-end, line-placed}
 use Rattle.lines.proofs.Writing.{excesses as excessesOf, outcomeIn, line-is, standing-is, excess-is, kept, rest, lines-fit, lines-end, entry-inside, exposure-step, excess-step, bytes-step}
 use borrow.Author.Needs.{needs}
 use Rattle.lines.proofs.put_list.Statement.{statement}
 use Rattle.lines.proofs.put_list.Tie as tie
 
 abbrev Inv-loop : tie.InvT-loop
-Inv-loop d₀ cells sets heads list lines limits excesses₀ standing₀ last₀ i₀ d excesses standing last i =
+Inv-loop d₀ cells sets heads list lines limits excesses₀ standing₀ last₀ place₀ i₀ d excesses standing last place i =
     (i ≤ lines)
     × (standing + excesses + sumOf (exposureIn cells) (rest (source limits cells sets heads) list lines i) ≤ sumOf (exposureIn cells) (take lines list))
     × (excesses + excessesOf (linesAlong (source limits cells sets heads) last standing (rest (source limits cells sets heads) list lines i)) ≡ excessesOf (listedLines (source limits cells sets heads) list lines))
-    × Putting d₀ headSize (joined (listedLines (source limits cells sets heads) list lines)) d (headSize + lineSize * i)
+    × (place ≡ headSize + lineSize * i)
+    × Putting d₀ headSize (joined (listedLines (source limits cells sets heads) list lines)) d place
     (joined (linesAlong (source limits cells sets heads) last standing (rest (source limits cells sets heads) list lines i)))
 
 abbrev μ-loop : tie.MeasureT-loop
-μ-loop d₀ cells sets heads list lines limits excesses₀ standing₀ last₀ i₀ d excesses standing last i = lines - i
+μ-loop d₀ cells sets heads list lines limits excesses₀ standing₀ last₀ place₀ i₀ d excesses standing last place i = lines - i
 
 -- where the entry at the place reached is taken
 module _ (c : tie.In-loop Inv-loop μ-loop) where
@@ -77,7 +78,7 @@ no-bytes h = rw h
 loop-holds : tie.Need-loop-holds Inv-loop μ-loop
 loop-holds c =
     let a = c .before .before .before .before .before .args in
-    (omega arith, omega arith, omega arith, put-start (now (a .d)) headSize _)
+    (omega arith, omega arith, omega arith, omega arith, put-start (now (a .d)) headSize _)
 
 mul-entry : tie.Need-mul-entry Inv-loop μ-loop
 mul-entry c = record { fits = omega (arith, start c .pre .long) }
@@ -109,29 +110,23 @@ array-read-limit c = here (c .before .before .before) .tier
 cut-requires : tie.Need-cut-requires Inv-loop μ-loop
 cut-requires c κs = omega (arith, within (c .before), start (c .before .before .before) .pre .amounts)
 
-mul-t26 : tie.Need-mul-t26 Inv-loop μ-loop
-mul-t26 c = let h = here (c .before .before .before .before) in record { fits = omega (arith, h .head) }
+mul-t27 : tie.Need-mul-t27 Inv-loop μ-loop
+mul-t27 c = let h = here (c .before .before .before .before) in record { fits = omega (arith, h .head) }
 
-shared-slice-read-t24 : tie.Need-shared-slice-read-t24 Inv-loop μ-loop
-shared-slice-read-t24 c = here (c .before .before .before .before .before) .head
+shared-slice-read-t25 : tie.Need-shared-slice-read-t25 Inv-loop μ-loop
+shared-slice-read-t25 c = here (c .before .before .before .before .before) .head
 
-cast-t32 : tie.Need-cast-t32 Inv-loop μ-loop
-cast-t32 c = record { fits = omega arith }
+cast-t33 : tie.Need-cast-t33 Inv-loop μ-loop
+cast-t33 c = record { fits = omega arith }
 
-mul-t22 : tie.Need-mul-t22 Inv-loop μ-loop
-mul-t22 c = let h = here (c .before .before .before .before .before) in record { fits = omega (arith, h .set) }
+mul-t23 : tie.Need-mul-t23 Inv-loop μ-loop
+mul-t23 c = let h = here (c .before .before .before .before .before) in record { fits = omega (arith, h .set) }
 
-shared-slice-read-t34 : tie.Need-shared-slice-read-t34 Inv-loop μ-loop
-shared-slice-read-t34 c = here (c .before .before .before .before .before .before) .set
-
-mul-put-line : tie.Need-mul-put-line Inv-loop μ-loop
-mul-put-line c = record { fits = omega (arith, start (c .before .before .before .before .before .before .before) .pre .fits) }
-
-add-put-line : tie.Need-add-put-line Inv-loop μ-loop
-add-put-line c = record { fits = omega (arith, start (c .before .before .before .before .before .before .before) .pre .fits) }
+shared-slice-read-t35 : tie.Need-shared-slice-read-t35 Inv-loop μ-loop
+shared-slice-read-t35 c = here (c .before .before .before .before .before .before) .set
 
 put-line-requires : tie.Need-put-line-requires Inv-loop μ-loop
-put-line-requires c κs = let i = c .before .before .before .before .before .before .before in omega (arith, start i .pre .fits, i .before .loop .inv .3 .size)
+put-line-requires c κs = let i = c .before .before .before .before .before .before .before in omega (arith, start i .pre .fits, i .before .loop .inv .4 .size)
 
 add-excesses : tie.Need-add-excesses Inv-loop μ-loop
 add-excesses c =
@@ -159,14 +154,15 @@ loop-again c =
       omega arith,
       omega (arith, m, within (k .before .before), k .before .before .amount .ensures),
       rw next (omega (arith, over, step, l .inv .2)),
+      omega (arith, p .ensures .place),
       rw next
-          (put-piece (l .inv .3) (lines-fit (S i) (now (a .list)) (a .lines) _ (start i .pre) noGroup 0) (lineBytes (entryLine (S i) under (e i))) _ bytes
-          (omega (arith, line-long (entryLine (S i) under (e i)))) (search needs)
-          (p .ensures ∙ ap (λ (x : Line). placed (l .d) (headSize + lineSize * at i) (lineBytes x)) (line-is (S i) under (e i) (k .cut .result) (cut-is k)))),
+          (put-piece (l .inv .4) (lines-fit (S i) (now (a .list)) (a .lines) _ (start i .pre) noGroup 0) (lineBytes (entryLine (S i) under (e i))) _ bytes
+          (omega (arith, p .ensures .place, line-long (entryLine (S i) under (e i)))) (search needs)
+          (line-placed (p .ensures) ∙ ap (λ (x : Line). placed (l .d) (l .place) (lineBytes x)) (line-is (S i) under (e i) (k .cut .result) (cut-is k)))),
     )
 
 same-length : tie.Need-same-length Inv-loop μ-loop
-same-length c = c .before .loop .inv .3 .size
+same-length c = c .before .loop .inv .4 .size
 
 returns : tie.Need-returns Inv-loop μ-loop
 returns c =
@@ -176,7 +172,7 @@ returns c =
     let S = source (a .t2) (now (a .cells)) (now (a .sets)) (now (a .heads)) in
     let none = lines-end S (now (a .list)) (a .lines) _ (s .pre) (l .last) (l .standing) (l .i) (omega arith) in (
       sym (no-excess none) ∙ l .inv .2,
-      put-end (l .inv .3) (lines-fit S (now (a .list)) (a .lines) _ (s .pre) noGroup 0) (no-bytes none) .1,
+      put-end (l .inv .4) (lines-fit S (now (a .list)) (a .lines) _ (s .pre) noGroup 0) (no-bytes none) .1,
     )
 
 pub put-list-spec : {M : Type 1} → statement M
@@ -197,13 +193,11 @@ put-list-spec =
     mul-limit
     array-read-limit
     cut-requires
-    mul-t26
-    shared-slice-read-t24
-    cast-t32
-    mul-t22
-    shared-slice-read-t34
-    mul-put-line
-    add-put-line
+    mul-t27
+    shared-slice-read-t25
+    cast-t33
+    mul-t23
+    shared-slice-read-t35
     put-line-requires
     add-excesses
     add-i
