@@ -1,7 +1,7 @@
 # The library from the outside. Included from the repository's root, or used by
 # make -f tests/tests.mk TARGET there.
 #
-#     tests           all of the below but compare-long and bench
+#     tests           all of the below but compare-long, compare-before and bench
 #     tests-rust      the documents' cases and the slips, then the comparison with the second
 #                     implementation
 #     tests-c         the C ledger: as C99, as C++, under valgrind and the sanitizers
