@@ -4,7 +4,9 @@
  * Weightrose turns a schedule of limits and a book of assets, both bytes, into a report of the
  * asset concentration charge, or answers with one refusal.
  *
- * Both functions are plain computations over the bytes handed to them: they allocate nothing,
+ * A book of the first version can be turned into one of the second, which names desks.
+ *
+ * All functions are plain computations over the bytes handed to them: they allocate nothing,
  * read and write no file, keep nothing between calls and share nothing between threads, so any
  * number of threads may call them at once, each with a buffer of its own. A call needs at most
  * 256 KB of stack. No input, however damaged, makes a call fail in any other way than by a
@@ -71,7 +73,7 @@ extern "C" {
  *
  * Book
  *    0  "ACB" and a zero byte
- *    4  u16  version, 1
+ *    4  u16  version, 1 or 2
  *    6  u16  counterparties
  *    8  u16  assets
  *   10  u16  mitigants
@@ -96,7 +98,9 @@ extern "C" {
  *    2       entry class: 0 none, 1 item (e), 2 item (g), 3 a specialist fund's retrocession
  *    3       completed months since the downgrade, 255 for 255 or more; needs an entry class
  *    4  u16  counterparty
- *    6  u16  how many mitigants are its own
+ *    6  u16  version 1: how many mitigants are its own
+ *    6       version 2: how many mitigants are its own, at most 255
+ *    7       version 2: its desk, 0 to 255; an asset of version 1 counts as desk 0
  *    8  u64  value
  *   16  u64  offsets; of reinsurance, netted liabilities, at most its value
  *   24  u64  deductions
@@ -112,6 +116,13 @@ extern "C" {
  *    4  u64  value
  *
  * The report's layout is below, with the names of its fields.
+ */
+
+/*
+ * Versions of a book. Bytes 6 and 7 of an asset are all that the two versions have apart, and a
+ * book is read by the version that its header states. No report reads a desk: two books that
+ * differ in desks alone get the same report, byte for byte. weightrose_convert() turns a book of
+ * version 1 into one of version 2.
  */
 
 /*
@@ -138,11 +149,12 @@ extern "C" {
 /* ========================================================================== */
 
 /*
- * Why a schedule or a book was turned back. The checks are made by rising number, but for 17, which
- * is checked after 13 and before 14, and the answer is the first that fails.
+ * Why a schedule or a book was turned back, and the answer is the first check that fails.
+ * weightrose_report() makes them by rising number, but for 17, which is checked after 13 and before
+ * 14. weightrose_convert() makes them in the order 5 to 13, 17, 14, 15, 18, 16.
  */
 enum weightrose_refusal {
-	/* Nothing was refused: there is a report. */
+	/* Nothing was refused: there is a report, or a converted book. */
 	WEIGHTROSE_ACCEPTED = 0,
 	/* The schedule is not of 122 bytes. */
 	WEIGHTROSE_SCHEDULE_LENGTH = 1,
@@ -157,7 +169,7 @@ enum weightrose_refusal {
 	/* The book does not start with "ACB" and a zero byte, byte 12 is not 0 or 1, or bytes 13 to
 	 * 15 are not zero. */
 	WEIGHTROSE_BOOK_MARK = 6,
-	/* The book's version is not 1. */
+	/* The book's version is neither 1 nor 2; of a book to be converted, it is not 1. */
 	WEIGHTROSE_BOOK_VERSION = 7,
 	/* The book has more records than it may, or another length than its counts say. */
 	WEIGHTROSE_BOOK_COUNTS = 8,
@@ -175,14 +187,18 @@ enum weightrose_refusal {
 	WEIGHTROSE_REINSURANCE_VALUES = 14,
 	/* The assets under stress (VAF', paragraph 20) are below 0 or over the most. */
 	WEIGHTROSE_STRESSED_ASSETS = 15,
-	/* The buffer is shorter than the report. */
+	/* The buffer is shorter than the report, or than the book to be converted. */
 	WEIGHTROSE_BUFFER_SHORT = 16,
 	/* An asset, linked or not, has entry class 3 in a book that is no specialist fund's. The
 	 * place is its own, the first such asset's. Checked after 13 and before 14. */
-	WEIGHTROSE_SPECIALIST_ENTRY = 17
+	WEIGHTROSE_SPECIALIST_ENTRY = 17,
+	/* An asset, linked or not, of a book to be converted has more than 255 mitigants. The place
+	 * is its own, the first such asset's. Checked after 15 and before 16. */
+	WEIGHTROSE_MANY_MITIGANTS = 18
 };
 
-/* The refusal of an answer of weightrose_report(), WEIGHTROSE_ACCEPTED where there is a report. */
+/* The refusal of an answer of weightrose_report() or weightrose_convert(), WEIGHTROSE_ACCEPTED where
+ * bytes were written. */
 static inline enum weightrose_refusal
 weightrose_refusal_of(uint64_t answer)
 {
@@ -190,15 +206,16 @@ weightrose_refusal_of(uint64_t answer)
 }
 
 /* The place of a refused record, counted from 1: of the counterparty, asset or mitigant where the
- * refusal is of one of these (10, 11 and 12, and 17 for an asset), otherwise 0. Only for an answer
- * with a refusal. */
+ * refusal is of one of these (10, 11 and 12, and 17 and 18 for an asset), otherwise 0. Only for an
+ * answer with a refusal. */
 static inline uint32_t
 weightrose_place_of(uint64_t answer)
 {
 	return (uint32_t)answer;
 }
 
-/* The bytes of the report. Only for an answer without a refusal. */
+/* The bytes that were written: those of the report, or of the converted book. Only for an answer
+ * without a refusal. */
 static inline size_t
 weightrose_length_of(uint64_t answer)
 {
@@ -227,6 +244,23 @@ uint64_t
 weightrose_report(const uint8_t *schedule, size_t schedule_len,
 		  const uint8_t *book, size_t book_len,
 		  uint8_t *report, size_t report_len);
+
+/*
+ * weightrose_convert() turns a book of version 1 into one of version 2, all of whose assets are of
+ * desk 0. It reads 'book_len' bytes at 'book' and changes none of them. If the book is of version 1,
+ * would be accepted by weightrose_report(), has no asset with more than 255 mitigants, and
+ * 'converted_len' is not below 'book_len', it writes the new book, which has the same length, at
+ * 'converted' and returns that length; bytes behind it stay as they were. Otherwise it returns a
+ * refusal and changes no byte of the buffer. Answers are taken apart as those of
+ * weightrose_report(), and the same holds of pointers, threads and what the buffer has beforehand.
+ * Nothing is lost: under every schedule, and with every buffer lent for the report, the old book
+ * and the new one get the same answer and the same bytes, and the old one is had from the new one
+ * by its version in bytes 4 and 5 and its counts in two bytes. A book with an asset of more than
+ * 255 mitigants has no version 2; it goes on being accepted as version 1.
+ */
+uint64_t
+weightrose_convert(const uint8_t *book, size_t book_len,
+		   uint8_t *converted, size_t converted_len);
 
 /*
  * weightrose_published() writes the published schedule (LPS 117, Attachment A, paragraphs 1 to 3),

@@ -8,7 +8,8 @@
 #     tests-install   the C ledger against an installed library
 #     compare-long    the comparison on a million inputs (LONG_INPUTS, SEED)
 #     compare-before  the library against another build of it, BEFORE_LIB=.., in place of the second
-#                     implementation: every answer and every byte lent
+#                     implementation: every report's answer and every byte lent; where that build
+#                     does not know version 2 of a book, BEFORE_FLAGS='--without-version 2'
 #     bench           times of the library and of the second implementation; with YARDSTICK_LIB=..,
 #                     a static library that has peer_report, of that one too
 #
@@ -19,6 +20,7 @@ WEIGHTROSE_LIB ?= target/staticlib/libweightrose.a
 TESTS_OUT := target/tests
 YARDSTICK_LIB ?=
 BEFORE_LIB ?=
+BEFORE_FLAGS ?=
 LONG_INPUTS ?= 1000000
 SEED ?= 20230701
 
@@ -49,10 +51,11 @@ compare-before: $(WEIGHTROSE_LIB)
 	@test -f '$(BEFORE_LIB)' || { echo 'compare-before: BEFORE_LIB= names no library' >&2; exit 2; }
 	mkdir -p $(TESTS_OUT)
 	objcopy --redefine-sym weightrose_report=peer_report \
+	    --redefine-sym weightrose_convert=peer_convert \
 	    --redefine-sym weightrose_published=peer_published $(BEFORE_LIB) $(TESTS_OUT)/libbefore.a
 	$(CARGO_ENV) YARDSTICK_LIB=$(abspath $(TESTS_OUT)/libbefore.a) \
 	    $(CARGO) run $(CARGO_FLAGS) --profile checked --bin compare -- \
-	    --against yardstick --seed $(SEED)
+	    --against yardstick --seed $(SEED) $(BEFORE_FLAGS)
 
 bench: $(WEIGHTROSE_LIB)
 	$(CARGO_ENV) YARDSTICK_LIB=$(abspath $(YARDSTICK_LIB)) \

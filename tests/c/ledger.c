@@ -4,8 +4,9 @@
  * It writes its records as a book, takes the published schedule from the library, asks for the
  * report, walks the report's lines and prints them, and names every refusal in a sentence. It
  * checks itself against document 01's figures (T2, T4, T5 and the table of refusals) and those of
- * document 02's specialist funds (C-11), and ends with status 1 where one differs. Each block is as
- * long as its bytes, so that a memory checker sees any byte read or written past its end.
+ * document 02's specialist funds (C-11), converts its book to version 2 and books its assets by
+ * desk (C-13), and ends with status 1 where anything differs. Each block is as long as its bytes,
+ * so that a memory checker sees any byte read or written past its end.
  */
 #include "weightrose.h"
 
@@ -204,7 +205,7 @@ sentence(enum weightrose_refusal refusal)
 	case WEIGHTROSE_BOOK_MARK:
 		return "The book's bytes are not a book.";
 	case WEIGHTROSE_BOOK_VERSION:
-		return "The book is of a version that is not known here.";
+		return "The book is of a version that is not taken here.";
 	case WEIGHTROSE_BOOK_COUNTS:
 		return "The book has too many records, or is not as long as it says.";
 	case WEIGHTROSE_BOOK_AMOUNTS:
@@ -222,9 +223,11 @@ sentence(enum weightrose_refusal refusal)
 	case WEIGHTROSE_STRESSED_ASSETS:
 		return "The assets under stress are below zero or too large.";
 	case WEIGHTROSE_BUFFER_SHORT:
-		return "The buffer is too short for the report.";
+		return "The buffer is too short.";
 	case WEIGHTROSE_SPECIALIST_ENTRY:
 		return "An asset is a retrocession that only a specialist fund may have.";
+	case WEIGHTROSE_MANY_MITIGANTS:
+		return "An asset has more mitigants than a book of version 2 can count.";
 	}
 	return "The answer is not one of this library's.";
 }
@@ -473,6 +476,7 @@ byte_refusals(void)
 	expect_schedule_refused(11, 6, WEIGHTROSE_SCHEDULE_RATES); /* row c's rate: 250 + 6 * 256 */
 	expect_book_refused(&empty_ledger, 12, 2, WEIGHTROSE_BOOK_MARK, 0);
 	expect_book_refused(&empty_ledger, 4, 0, WEIGHTROSE_BOOK_VERSION, 0);
+	expect_book_refused(&empty_ledger, 4, 3, WEIGHTROSE_BOOK_VERSION, 0);
 	expect_book_refused(&empty_ledger, 8, 1, WEIGHTROSE_BOOK_COUNTS, 0);
 }
 
@@ -575,6 +579,149 @@ specialist_fund(void)
 	expect_ledger_refused(&ledger, WEIGHTROSE_SPECIALIST_ENTRY, 2);
 }
 
+/* ---- Books of version 2 ---- */
+
+/* The report of a book under the published schedule, in a block of its length. */
+static struct block
+report_of(struct block book)
+{
+	struct block schedule = new_schedule();
+	struct block room = new_block(WEIGHTROSE_MOST_REPORT_SIZE);
+	uint64_t answer = weightrose_report(schedule.bytes, schedule.length, book.bytes, book.length,
+					    room.bytes, room.length);
+
+	expect(weightrose_refusal_of(answer) == WEIGHTROSE_ACCEPTED, "C-13: a book was refused");
+	room.length = weightrose_length_of(answer);
+	free(schedule.bytes);
+	return room;
+}
+
+static void
+expect_same(struct block one, struct block other, const char *what)
+{
+	expect(one.length == other.length && memcmp(one.bytes, other.bytes, one.length) == 0, what);
+}
+
+/* Asks for a conversion into a buffer of that length and expects the refusal, its place and an
+ * untouched buffer. */
+static void
+expect_not_converted(struct block book, size_t room, enum weightrose_refusal refusal, uint32_t place)
+{
+	struct block converted = new_block(room);
+	uint64_t answer;
+	size_t i;
+
+	memset(converted.bytes, 0xa5, converted.length);
+	answer = weightrose_convert(book.bytes, book.length, converted.bytes, converted.length);
+	printf("not converted, %d at %" PRIu32 ": %s\n", (int)weightrose_refusal_of(answer),
+	       weightrose_place_of(answer), sentence(weightrose_refusal_of(answer)));
+	expect(weightrose_refusal_of(answer) == refusal, sentence(refusal));
+	expect(weightrose_place_of(answer) == place, "C-13: a refusal's place");
+	for (i = 0; i < converted.length; i++)
+		expect(converted.bytes[i] == 0xa5, "a refusal changed the converted book");
+	free(converted.bytes);
+}
+
+/* The book as version 2, in a block of its length; the caller frees it. */
+static struct block
+new_converted(struct block book)
+{
+	struct block converted = new_block(book.length);
+	uint64_t answer = weightrose_convert(book.bytes, book.length,
+					     converted.bytes, converted.length);
+
+	printf("C-13: %s\n", weightrose_refusal_of(answer) == WEIGHTROSE_ACCEPTED ?
+	       "The book was converted." : sentence(weightrose_refusal_of(answer)));
+	if (weightrose_refusal_of(answer) != WEIGHTROSE_ACCEPTED)
+		exit(EXIT_FAILURE);
+	expect(weightrose_length_of(answer) == book.length, "C-13: the converted book's length");
+	return converted;
+}
+
+/*
+ * A ledger moves to version 2: it converts its book, sees that the report is the same, and books
+ * each asset at its desk from then on. The old program's book is had again from the new one.
+ */
+static void
+desks(void)
+{
+	static const struct counterparty names[] = { { NO_PARENT, 0, UNGRADED, 0 },
+						     { NO_PARENT, BANK, 1, 0 } };
+	static const struct asset assets[] = {
+		{ ANY_OTHER, 1, 300000000, 0, 2, NO_ENTRY, 0 },
+		{ TRADED, 1, 300000000, 0, 0, NO_ENTRY, 0 },
+	};
+	static const struct mitigant cash[] = { { CASH, 31, 2, 30000000 }, { CASH, 31, 2, 20000000 } };
+	static const uint8_t asset_desks[] = { 7, 255 };
+	struct ledger ledger = ledger_of(names, COUNT(names), assets, COUNT(assets));
+	struct block old, converted, old_report, new_report_block;
+	size_t i, first = WEIGHTROSE_BOOK_HEADER_SIZE + COUNT(names) * WEIGHTROSE_COUNTERPARTY_SIZE;
+
+	ledger.mitigants = cash;
+	ledger.mitigant_count = COUNT(cash);
+	old = new_book(&ledger);
+	converted = new_converted(old);
+	old_report = report_of(old);
+	new_report_block = report_of(converted);
+	expect_same(old_report, new_report_block, "C-13: the converted book has another report");
+	free(new_report_block.bytes);
+
+	for (i = 0; i < COUNT(assets); i++)
+		converted.bytes[first + i * WEIGHTROSE_ASSET_SIZE + 7] = asset_desks[i];
+	new_report_block = report_of(converted);
+	expect_same(old_report, new_report_block, "C-13: desks changed the report");
+	print_report(new_report_block.bytes);
+	free(new_report_block.bytes);
+
+	/* Version 2 is not converted again, and a byte less is too little. */
+	expect_not_converted(converted, converted.length, WEIGHTROSE_BOOK_VERSION, 0);
+	expect_not_converted(old, old.length - 1, WEIGHTROSE_BUFFER_SHORT, 0);
+
+	/* Back to version 1: its number, and counts of two bytes. */
+	converted.bytes[4] = 1;
+	for (i = 0; i < COUNT(assets); i++)
+		converted.bytes[first + i * WEIGHTROSE_ASSET_SIZE + 7] = 0;
+	expect_same(converted, old, "C-13: the old book was not rebuilt");
+	free(old.bytes);
+	free(converted.bytes);
+	free(old_report.bytes);
+}
+
+/* 255 mitigants of one asset, and one more, which a byte cannot count. */
+static void
+many_mitigants(void)
+{
+	static const struct counterparty names[] = { { NO_PARENT, BANK, 1, 0 } };
+	static struct mitigant cash[256];
+	struct asset assets[] = {
+		{ ANY_OTHER, 1, 1, 0, 0, NO_ENTRY, 0 },
+		{ ANY_OTHER, 1, 1000, 0, 255, NO_ENTRY, 0 },
+	};
+	struct ledger ledger = ledger_of(names, COUNT(names), assets, COUNT(assets));
+	struct block book, converted;
+	size_t i;
+
+	for (i = 0; i < COUNT(cash); i++) {
+		cash[i].form = CASH;
+		cash[i].flags = 31;
+		cash[i].counterparty = 1;
+		cash[i].value = 3;
+	}
+	ledger.mitigants = cash;
+	ledger.mitigant_count = 255;
+	book = new_book(&ledger);
+	converted = new_converted(book);
+	free(book.bytes);
+	free(converted.bytes);
+
+	ledger.mitigant_count = 256;
+	assets[1].mitigants = 256;
+	book = new_book(&ledger);
+	expect_not_converted(book, book.length, WEIGHTROSE_MANY_MITIGANTS, 2);
+	expect_not_converted(book, 0, WEIGHTROSE_MANY_MITIGANTS, 2);
+	free(book.bytes);
+}
+
 static void
 published_into_too_little(void)
 {
@@ -599,6 +746,8 @@ main(void)
 	amount_refusals();
 	record_refusals();
 	specialist_fund();
+	desks();
+	many_mitigants();
 	published_into_too_little();
 	printf("ledger: %d failures\n", failures);
 	return failures ? EXIT_FAILURE : EXIT_SUCCESS;

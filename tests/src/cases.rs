@@ -71,7 +71,7 @@ impl Report {
 pub fn report_under(schedule: &[u8], book: &RawBook) -> Report {
     let mut buffer = vec![0xa5; LARGEST_REPORT];
     match weightrose::report(schedule, &book.bytes(), &mut buffer) {
-        Answer::Report(length) => Report { bytes: buffer[..length].to_vec() },
+        Answer::Written(length) => Report { bytes: buffer[..length].to_vec() },
         Answer::Refused(refusal) => panic!("{refusal:?}"),
     }
 }
@@ -88,7 +88,7 @@ pub fn refusal(schedule: &[u8], book: &[u8], room: usize) -> Refusal {
     assert!(buffer.iter().all(|&byte| byte == 0xa5), "a refusal changed the buffer");
     match answer {
         Answer::Refused(refusal) => refusal,
-        Answer::Report(length) => panic!("a report of {length} bytes"),
+        Answer::Written(length) => panic!("a report of {length} bytes"),
     }
 }
 

@@ -89,6 +89,31 @@ pub fn compare(one: Subject, other: Subject, input: &Input) -> Result<Outcome, D
     })
 }
 
+/// What a conversion must keep, as the library has it: the same answer and the same bytes of a
+/// report of both books, into buffers of these lengths, and the old book out of the new one.
+pub fn keeps(input: &Input, new: &[u8]) -> Result<(), String> {
+    let length = second::length(&input.schedule, &input.book).unwrap_or(0);
+    for room in [length, length.saturating_sub(1), length + 7] {
+        let converted = Input { book: new.to_vec(), ..input.clone() };
+        if outcome(&library, input, room) != outcome(&library, &converted, room) {
+            return Err(format!("the reports of both books differ, {room} bytes lent"));
+        }
+    }
+    if second::rebuilt(new) != input.book {
+        return Err("the old book is not rebuilt".to_string());
+    }
+    Ok(())
+}
+
+/// The converters, as subjects that read no schedule.
+pub fn library_convert(_: &[u8], book: &[u8], lent: &mut Lent) -> u64 {
+    crate::weightrose::packed_convert(book, lent.buffer())
+}
+
+pub fn second_convert(_: &[u8], book: &[u8], lent: &mut Lent) -> u64 {
+    second::convert(book, lent.buffer()).packed()
+}
+
 /// The library, as a subject.
 pub fn library(schedule: &[u8], book: &[u8], lent: &mut Lent) -> u64 {
     crate::weightrose::packed_report(schedule, book, lent.buffer())

@@ -54,6 +54,8 @@ pub struct RawAsset {
     pub months: u8,
     pub counterparty: u16,
     pub mitigants: u16,
+    /// Laid out in version 2 alone, which has one byte for the count.
+    pub desk: u8,
     pub value: u64,
     pub offsets: u64,
     pub deductions: u64,
@@ -140,7 +142,7 @@ impl RawBook {
         bytes.extend(self.zeros);
         put_u64(&mut bytes, &[self.total, self.base as u64, self.excluded]);
         self.counterparties.iter().for_each(|counterparty| counterparty.put(&mut bytes));
-        self.assets.iter().for_each(|asset| asset.put(&mut bytes));
+        self.assets.iter().for_each(|asset| asset.put(self.version, &mut bytes));
         self.mitigants.iter().for_each(|mitigant| mitigant.put(&mut bytes));
         bytes
     }
@@ -154,9 +156,13 @@ impl RawCounterparty {
 }
 
 impl RawAsset {
-    fn put(&self, bytes: &mut Vec<u8>) {
+    fn put(&self, version: u16, bytes: &mut Vec<u8>) {
         bytes.extend([self.kind, self.flags, self.entry, self.months]);
-        put_u16(bytes, &[self.counterparty, self.mitigants]);
+        put_u16(bytes, &[self.counterparty]);
+        match version {
+            2 => bytes.extend([self.mitigants as u8, self.desk]),
+            _ => put_u16(bytes, &[self.mitigants]),
+        }
         put_u64(bytes, &[self.value, self.offsets, self.deductions]);
         put_u64(bytes, &[self.insurance_stress, self.combination_stress]);
     }

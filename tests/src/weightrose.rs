@@ -1,4 +1,4 @@
-//! The library's two exported functions behind safe ones.
+//! The library's three exported functions behind safe ones.
 
 /// Bytes of a schedule.
 pub const SCHEDULE: usize = 122;
@@ -20,19 +20,26 @@ mod exported {
             report: *mut u8,
             report_len: usize,
         ) -> u64;
+        pub fn weightrose_convert(
+            book: *const u8,
+            book_len: usize,
+            converted: *mut u8,
+            converted_len: usize,
+        ) -> u64;
         pub fn weightrose_published(schedule: *mut u8, schedule_len: usize) -> u64;
     }
 }
 
-/// A report of so many bytes, or one refusal.
+/// So many bytes written, or one refusal.
 #[derive(Clone, Copy, Debug, PartialEq, Eq)]
 pub enum Answer {
-    Report(usize),
+    Written(usize),
     Refused(Refusal),
 }
 
-/// The refusals by name, 1 to 17 in this order; 10 to 12 with the bad record's place, 17 with the
-/// asset's. The library checks 1 to 13, then 17, then 14 to 16.
+/// The refusals by name, 1 to 18 in this order; 10 to 12 with the bad record's place, 17 and 18 with
+/// the asset's. A report is checked for 1 to 13, then 17, then 14 to 16; a conversion for 5 to 13,
+/// then 17, 14, 15, 18 and 16.
 #[derive(Clone, Copy, Debug, PartialEq, Eq)]
 pub enum Refusal {
     ScheduleLength,
@@ -52,6 +59,7 @@ pub enum Refusal {
     StressedAssets,
     BufferShort,
     SpecialistEntry(u16),
+    ManyMitigants(u16),
 }
 
 impl Refusal {
@@ -75,16 +83,19 @@ impl Refusal {
             Refusal::StressedAssets => 15,
             Refusal::BufferShort => 16,
             Refusal::SpecialistEntry(_) => 17,
+            Refusal::ManyMitigants(_) => 18,
         }
     }
 
-    /// "place is the record's for 10 to 12, else 0"; C-11: 17 "with the asset's place".
+    /// "place is the record's for 10 to 12, else 0"; C-11: 17 "with the asset's place";
+    /// C-13: 18 "with its place".
     pub fn place(self) -> u16 {
         match self {
             Refusal::Counterparty(place)
             | Refusal::Asset(place)
             | Refusal::Mitigant(place)
-            | Refusal::SpecialistEntry(place) => place,
+            | Refusal::SpecialistEntry(place)
+            | Refusal::ManyMitigants(place) => place,
             _ => 0,
         }
     }
@@ -94,7 +105,7 @@ impl Answer {
     /// The answer as the library packs it: the refusal's number above, length or place below.
     pub fn packed(self) -> u64 {
         match self {
-            Answer::Report(length) => length as u64,
+            Answer::Written(length) => length as u64,
             Answer::Refused(refusal) => {
                 u64::from(refusal.number()) << 32 | u64::from(refusal.place())
             }
@@ -105,7 +116,7 @@ impl Answer {
     pub fn unpacked(packed: u64) -> Option<Answer> {
         let (number, low) = (packed >> 32, packed as u32);
         if number == 0 {
-            return Some(Answer::Report(low as usize));
+            return Some(Answer::Written(low as usize));
         }
         let refusal = match number {
             1 => Refusal::ScheduleLength,
@@ -125,6 +136,7 @@ impl Answer {
             15 => Refusal::StressedAssets,
             16 => Refusal::BufferShort,
             17 => Refusal::SpecialistEntry(low as u16),
+            18 => Refusal::ManyMitigants(low as u16),
             _ => return None,
         };
         Some(Answer::Refused(refusal)).filter(|answer| answer.packed() == packed)
@@ -147,11 +159,30 @@ pub fn packed_report(schedule: &[u8], book: &[u8], buffer: &mut [u8]) -> u64 {
     }
 }
 
+/// The library's answer to a book of version 1 as it stands. Behind a conversion, the buffer starts
+/// with the book as version 2.
+pub fn packed_convert(book: &[u8], buffer: &mut [u8]) -> u64 {
+    // SAFETY: each pointer is that of a slice and stands beside the slice's length, and the
+    // buffer, being lent as `&mut`, is apart from the book.
+    unsafe {
+        exported::weightrose_convert(book.as_ptr(), book.len(), buffer.as_mut_ptr(), buffer.len())
+    }
+}
+
+fn unpacked(packed: u64) -> Answer {
+    Answer::unpacked(packed).unwrap_or_else(|| panic!("no answer packs to {packed:#018x}"))
+}
+
 /// Writes the report of the book under the schedule to the front of the buffer and answers its
 /// length, or refuses and leaves the buffer as it is.
 pub fn report(schedule: &[u8], book: &[u8], buffer: &mut [u8]) -> Answer {
-    let packed = packed_report(schedule, book, buffer);
-    Answer::unpacked(packed).unwrap_or_else(|| panic!("no answer packs to {packed:#018x}"))
+    unpacked(packed_report(schedule, book, buffer))
+}
+
+/// Writes a book of version 1 as version 2 to the front of the buffer and answers its length, or
+/// refuses and leaves the buffer as it is.
+pub fn convert(book: &[u8], buffer: &mut [u8]) -> Answer {
+    unpacked(packed_convert(book, buffer))
 }
 
 /// The published schedule, for a slice that may be too short: 122, or 0 and nothing is written.

@@ -2,12 +2,13 @@
 //! much stack at most.
 
 use std::thread;
-use weightrose_tests::compare::{compare, library, second};
+use weightrose_tests::compare::{compare, library, library_convert, second, second_convert};
 use weightrose_tests::inputs::{
-    largest_report_book, largest_specialist_book, lifelike, sixteen_tiers, Inputs, Parents, Shape,
+    largest_report_book, largest_specialist_book, lifelike, sixteen_tiers, Conversions, Inputs,
+    Parents, Shape,
 };
 use weightrose_tests::random::Random;
-use weightrose_tests::weightrose::{packed_report, published, LARGEST_REPORT};
+use weightrose_tests::weightrose::{packed_convert, packed_report, published, LARGEST_REPORT};
 
 /// The stack that `weightrose.h` names, and some for the thread's own frames.
 const STACK: usize = 256 * 1024;
@@ -18,7 +19,11 @@ fn threads_at_once() {
     let inputs = Inputs::new(23);
     let seeded =
         |share: usize| inputs.fixed() + share * 2_000..inputs.fixed() + (share + 1) * 2_000;
-    let agrees = |number: usize| compare(&library, &second, &inputs.get(number)).is_ok();
+    let conversions = Conversions::new(23);
+    let agrees = |number: usize| {
+        compare(&library, &second, &inputs.get(number)).is_ok()
+            && compare(&library_convert, &second_convert, &conversions.get(number)).is_ok()
+    };
     thread::scope(|scope| {
         for share in 0..4 {
             let (seeded, agrees) = (&seeded, &agrees);
@@ -37,7 +42,10 @@ fn a_small_stack() {
     for book in [largest_report_book(), largest_specialist_book(), groups, chain] {
         let book = book.bytes();
         let mut buffer = vec![0; LARGEST_REPORT];
-        let call = move || packed_report(&published(), &book, &mut buffer);
+        let call = move || {
+            assert_eq!(packed_convert(&book, &mut buffer), book.len() as u64);
+            packed_report(&published(), &book, &mut buffer)
+        };
         let thread = thread::Builder::new().stack_size(STACK + OWN_STACK).spawn(call).unwrap();
         assert_eq!(thread.join().unwrap() >> 32, 0);
     }

@@ -238,7 +238,7 @@ fn an_answer_packs_and_unpacks() {
             let answer = Answer::unpacked(packed);
             let known = match number {
                 0 => true,
-                10..=12 | 17 => low <= 65_535,
+                10..=12 | 17 | 18 => low <= 65_535,
                 1..=16 => low == 0,
                 _ => false,
             };

@@ -1,13 +1,15 @@
 //! Document 02's requests through the library, with their figures and both sides of each of their
-//! boundaries: C-11, specialist reinsurers; C-12, lines straight into the lent report.
+//! boundaries: C-11, specialist reinsurers; C-12, lines straight into the lent report; C-13, desks
+//! and the converter.
 
 use weightrose_tests::cases::{refusal, refused_book, report, report_under, Report};
 use weightrose_tests::inputs::{
     largest_report_book, largest_specialist_book, sample, sixteen_tiers,
 };
 use weightrose_tests::raw::*;
+use weightrose_tests::second::rebuilt;
 use weightrose_tests::weightrose::{
-    packed_report, published, Refusal, LARGEST_BOOK, LARGEST_REPORT, LINE,
+    convert, packed_report, published, Answer, Refusal, LARGEST_BOOK, LARGEST_REPORT, LINE,
 };
 
 const TOTAL: u64 = 10_000_000_000;
@@ -380,5 +382,161 @@ fn c12_lines_change_their_own_bytes_alone() {
                 assert!(area[..start].iter().chain(&area[end..]).all(|&byte| byte == filling));
             }
         }
+    }
+}
+
+/// The bytes of a book of version 1 converted, in a buffer of their length; no byte of the book
+/// is another but byte 4.
+fn converted(book: &RawBook) -> Vec<u8> {
+    let old = book.bytes();
+    let mut new = vec![0xa5; old.len()];
+    assert_eq!(convert(&old, &mut new), Answer::Written(old.len()));
+    new
+}
+
+/// The refusal of a book that the converter gets with an output of that length, which must stay as
+/// it was.
+fn not_converted(book: &[u8], room: usize) -> Refusal {
+    let mut buffer = vec![0xa5; room];
+    let answer = convert(book, &mut buffer);
+    assert!(buffer.iter().all(|&byte| byte == 0xa5), "a refusal changed the output");
+    match answer {
+        Answer::Refused(refusal) => refusal,
+        Answer::Written(length) => panic!("{length} bytes were written"),
+    }
+}
+
+/// A name with three assets, the second of which has so many mitigants.
+fn with_mitigants(count: usize) -> RawBook {
+    let mut book = RawBook::empty(TOTAL, BASE, 0);
+    let bank = book.counterparty(RawCounterparty { kind: 1, grade: 1, ..Default::default() });
+    let name = book.counterparty(RawCounterparty::default());
+    let asset = RawAsset { kind: 11, counterparty: name, value: 200_000_000, ..Default::default() };
+    let cash = RawMitigant { form: 1, flags: 31, counterparty: bank, value: 1_000 };
+    book.asset(asset, &[]);
+    book.asset(asset, &vec![cash; count]);
+    book.asset(asset, &[cash]);
+    book
+}
+
+/// The report of bytes that are accepted, under the published schedule.
+fn report_of(book: &[u8]) -> Vec<u8> {
+    let mut buffer = vec![0; LARGEST_REPORT];
+    let length = packed_report(&published(), book, &mut buffer);
+    assert_eq!(length >> 32, 0, "refused: {length:#x}");
+    buffer.truncate(length as usize);
+    buffer
+}
+
+/// "both books get the same report, and the old one can be rebuilt from the new".
+#[test]
+fn c13_nothing_is_lost() {
+    let largest = largest_specialist_book();
+    for book in [RawBook::empty(TOTAL, BASE, 0), sample(), with_mitigants(255), largest] {
+        let (old, new) = (book.bytes(), converted(&book));
+        assert_eq!(new, RawBook { version: 2, ..book.clone() }.bytes());
+        assert_eq!(report_of(&new), report_of(&old));
+        assert_eq!(rebuilt(&new), old);
+    }
+}
+
+/// "byte 7 holds the desk, 0 to 255": whatever the desks, the report is that of the version 1 book.
+#[test]
+fn c13_a_report_reads_no_desk() {
+    for book in [sample(), with_mitigants(255)] {
+        let wanted = report(&book).bytes;
+        for desk in 0..=255 {
+            let mut at_desks = RawBook { version: 2, ..book.clone() };
+            for (place, asset) in (0..).zip(&mut at_desks.assets) {
+                asset.desk = desk ^ place;
+            }
+            assert_eq!(report(&at_desks).bytes, wanted);
+        }
+    }
+}
+
+/// "Refusal 7 now passes versions 1 and 2"; "The converter takes only version 1, any other is its
+/// refusal 7".
+#[test]
+fn c13_versions() {
+    let book = sample().bytes();
+    for version in (0..=300).chain([512, 513, 514, 0x0101, 0x0201, 0x0202, 65_535]) {
+        let mut other = book.clone();
+        other[4..6].copy_from_slice(&u16::to_le_bytes(version));
+        let mut buffer = vec![0; LARGEST_REPORT];
+        let reported = packed_report(&published(), &other, &mut buffer) >> 32 == 0;
+        assert_eq!(reported, matches!(version, 1 | 2), "version {version}");
+        if version != 1 {
+            assert_eq!(not_converted(&other, book.len()), Refusal::BookVersion);
+        }
+    }
+    // 7 before 8, behind 6 and 5.
+    let mut short = book[..book.len() - 1].to_vec();
+    assert_eq!(not_converted(&short, book.len()), Refusal::BookCounts);
+    short[4] = 2;
+    assert_eq!(not_converted(&short, book.len()), Refusal::BookVersion);
+    short[12] = 2;
+    assert_eq!(not_converted(&short, book.len()), Refusal::BookMark);
+    assert_eq!(not_converted(&short[..39], book.len()), Refusal::BookLength);
+}
+
+/// "It gives 18 when an asset has more than 255 mitigants, with its place, between 15 and 16."
+#[test]
+fn c13_more_than_255_mitigants() {
+    assert_eq!(converted(&with_mitigants(255))[40 + 8 + 48 + 6..][..2], [255, 0]);
+    // 0x0101 is 257 in version 1, whose low byte alone is 1.
+    for count in [256, 257, 300, 512, 1_499] {
+        let book = with_mitigants(count);
+        let bytes = book.bytes();
+        assert!(!report_of(&bytes).is_empty());
+        for room in [bytes.len() + 1, bytes.len(), bytes.len() - 1, 0] {
+            assert_eq!(not_converted(&bytes, room), Refusal::ManyMitigants(2));
+        }
+        let beside_15 = RawBook { excluded: TOTAL + 1, ..book };
+        assert_eq!(not_converted(&beside_15.bytes(), 0), Refusal::StressedAssets);
+    }
+    // The first of two; a count that does not add up is 13.
+    let mut two = with_mitigants(256);
+    let asset = RawAsset { kind: 11, counterparty: 1, ..Default::default() };
+    two.asset(asset, &vec![two.mitigants[0]; 256]);
+    assert_eq!(not_converted(&two.bytes(), 0), Refusal::ManyMitigants(2));
+    two.assets[1].mitigants = 0x0101;
+    assert_eq!(not_converted(&two.bytes(), 0), Refusal::MitigantCounts);
+    // Together they may have more.
+    let mut many = with_mitigants(200);
+    many.asset(asset, &vec![many.mitigants[0]; 200]);
+    converted(&many);
+}
+
+/// "16 compares the output with the book's length": no byte behind it is written.
+#[test]
+fn c13_the_output() {
+    for book in [RawBook::empty(TOTAL, BASE, 0), sample(), largest_report_book()] {
+        let (bytes, new) = (book.bytes(), converted(&book));
+        for short in 1..=bytes.len().min(40) {
+            assert_eq!(not_converted(&bytes, bytes.len() - short), Refusal::BufferShort);
+        }
+        for more in [1, 7, 1_000] {
+            let mut area = vec![0x5a; bytes.len() + more + 2];
+            let end = 1 + bytes.len();
+            let answer = convert(&bytes, &mut area[1..end + more]);
+            assert_eq!(answer, Answer::Written(bytes.len()));
+            assert!(area[1..end] == new);
+            assert!(area[0] == 0x5a && area[end..].iter().all(|&byte| byte == 0x5a));
+        }
+    }
+}
+
+/// Every byte string gets an answer: a converted book converted again, books cut off anywhere.
+#[test]
+fn c13_any_bytes() {
+    let new = converted(&sample());
+    assert_eq!(not_converted(&new, new.len()), Refusal::BookVersion);
+    assert_eq!(not_converted(&[], 0), Refusal::BookLength);
+    let old = sample().bytes();
+    for length in 0..old.len() {
+        let refusal = not_converted(&old[..length], old.len());
+        let wanted = if length < 40 { Refusal::BookLength } else { Refusal::BookCounts };
+        assert_eq!(refusal, wanted);
     }
 }

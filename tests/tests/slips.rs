@@ -1,14 +1,17 @@
 //! The comparison can fail: each wrong variant of the second implementation, and each stand-in for
 //! a library, is caught by it.
 
-use weightrose_tests::compare::{compare, library, second, Lent, Subject, GUARD};
-use weightrose_tests::inputs::{sample, Input, Inputs};
+use weightrose_tests::compare::{
+    compare, library, library_convert, second, second_convert, Lent, Subject, GUARD,
+};
+use weightrose_tests::inputs::{sample, Conversions, Input, Inputs};
 use weightrose_tests::raw::RawSchedule;
-use weightrose_tests::second::{report_by, Slip};
+use weightrose_tests::second::{convert_by, report_by, Slip};
 use weightrose_tests::weightrose::{report, Answer, Refusal, HEADER, LARGEST_REPORT, LINE};
 
 const SEED: u64 = 117;
 const SEEDED: usize = 20_000;
+const SEEDED_CONVERSIONS: usize = 10_000;
 
 /// The first seeded input on which a subject parts from the library.
 fn caught(inputs: &Inputs, subject: Subject) -> Option<usize> {
@@ -25,14 +28,77 @@ fn each_slip_is_caught() {
         };
         caught(&inputs, &wrong).is_none()
     };
-    let missed: Vec<Slip> = Slip::ALL.iter().copied().filter(passes).collect();
+    let of_report = Slip::ALL.iter().copied().filter(|slip| !slip.of_converter());
+    let missed: Vec<Slip> = of_report.filter(passes).collect();
     assert!(missed.is_empty(), "not caught: {missed:?}");
+}
+
+/// The first seeded input of the converter on which a subject parts from the library.
+fn caught_converting(inputs: &Conversions, subject: Subject) -> Option<usize> {
+    let mut seeded = inputs.fixed()..inputs.fixed() + SEEDED_CONVERSIONS;
+    seeded.find(|&number| compare(&library_convert, subject, &inputs.get(number)).is_err())
+}
+
+/// C-13: those of the converter, and those of what both entries read.
+#[test]
+fn each_slip_of_the_converter_is_caught() {
+    let inputs = Conversions::new(SEED);
+    let of_both =
+        [Slip::Version1CountOfOneByte, Slip::AnyByte12Marks, Slip::SpecialistEntryAfter14];
+    let of_converter = Slip::ALL.iter().copied().filter(|slip| slip.of_converter());
+    let passes = |slip: &Slip| {
+        let wrong =
+            |_: &[u8], book: &[u8], lent: &mut Lent| convert_by(slip, book, lent.buffer()).packed();
+        caught_converting(&inputs, &wrong).is_none()
+    };
+    let missed: Vec<Slip> = of_converter.chain(of_both).filter(passes).collect();
+    assert!(missed.is_empty(), "not caught: {missed:?}");
+}
+
+/// C-13: bytes that a converter could leave or change, and an answer that does not look at the book.
+#[test]
+fn bytes_converted_out_of_place_are_caught() {
+    type Spoil = fn(&[u8], usize, &mut [u8]);
+    let slips: [(&str, Spoil); 5] = [
+        ("a byte after the book", |_, length, lent| {
+            lent.iter_mut().skip(length).take(1).for_each(|byte| *byte ^= 1);
+        }),
+        ("the last byte left as it was", |before, length, lent| {
+            lent[length - 1] = before[length - 1]
+        }),
+        ("the version left as it was", |before, _, lent| lent[4] = before[4]),
+        ("version 3", |_, _, lent| lent[4] = 3),
+        ("the book itself", |_, _, lent| lent[4] = 1),
+    ];
+    let inputs = Conversions::new(SEED);
+    for (name, spoil) in slips {
+        let wrong: Subject = &|schedule, book, lent| {
+            let before = lent.buffer().to_vec();
+            let packed = second_convert(schedule, book, lent);
+            if let Some(Answer::Written(length)) = Answer::unpacked(packed) {
+                spoil(&before, length, lent.buffer());
+            }
+            packed
+        };
+        assert!(caught_converting(&inputs, wrong).is_some(), "{name} was not caught");
+    }
+    let by_refusal: Subject = &|schedule, book, lent| {
+        let packed = second_convert(schedule, book, lent);
+        if let Some(Answer::Refused(_)) = Answer::unpacked(packed) {
+            lent.buffer().iter_mut().take(1).for_each(|byte| *byte ^= 1);
+        }
+        packed
+    };
+    assert!(caught_converting(&inputs, by_refusal).is_some());
+    let nothing: Subject = &|_, book, _| book.len() as u64;
+    assert!(caught_converting(&inputs, nothing).is_some());
 }
 
 #[test]
 fn the_right_one_is_not_caught() {
     let inputs = Inputs::new(SEED);
     assert_eq!(caught(&inputs, &second), None);
+    assert_eq!(caught_converting(&Conversions::new(SEED), &second_convert), None);
 }
 
 /// A subject that answers as the second implementation and then spoils what it lent.
@@ -61,7 +127,7 @@ fn bytes_written_out_of_place_are_caught() {
     is_caught("a byte before the buffer", before_buffer);
     let after_report: Subject = &|schedule, book, lent| {
         spoiling(schedule, book, lent, |lent, answer| {
-            if let Answer::Report(length) = answer {
+            if let Answer::Written(length) = answer {
                 lent.buffer().iter_mut().skip(length).take(1).for_each(|byte| *byte ^= 1);
             }
         })
@@ -105,7 +171,7 @@ fn lines_put_out_of_place_are_caught() {
             let before = lent.buffer().to_vec();
             let packed = second(schedule, book, lent);
             match Answer::unpacked(packed) {
-                Some(Answer::Report(length)) if HEADER < length => {
+                Some(Answer::Written(length)) if HEADER < length => {
                     spoil(&before, &mut lent.buffer()[..length]);
                 }
                 _ => {}
@@ -121,7 +187,7 @@ fn lines_put_out_of_place_are_caught() {
 fn stand_ins_are_caught() {
     let mut fixed = vec![0; LARGEST_REPORT];
     let length = match report(&RawSchedule::published().bytes(), &sample().bytes(), &mut fixed) {
-        Answer::Report(length) => length,
+        Answer::Written(length) => length,
         Answer::Refused(refusal) => panic!("{refusal:?}"),
     };
     let one_report: Subject = &|_, _, lent| {
@@ -141,7 +207,7 @@ fn stand_ins_are_caught() {
     is_caught("a buffer untouched after acceptance", untouched);
     let more_lines: Subject = &|schedule, book, lent| {
         spoiling(schedule, book, lent, |lent, answer| {
-            if answer == Answer::Report(HEADER) {
+            if answer == Answer::Written(HEADER) {
                 lent.buffer()[6] += 1;
             }
         })
@@ -152,6 +218,7 @@ fn stand_ins_are_caught() {
         Refusal::Asset(1),
         Refusal::BufferShort,
         Refusal::SpecialistEntry(1),
+        Refusal::BookVersion,
     ] {
         let refused: Subject = &|_, _, _| Answer::Refused(refusal).packed();
         is_caught("one refusal for all", refused);

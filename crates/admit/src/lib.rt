@@ -1,10 +1,11 @@
 // Refusals 5 to 13 and 17: which byte strings are books.
+use book::Assets;
 use refusal::Checked;
 use refusal::Refusal;
 ghost use mathlib.Core.Path.{_≡_};
 ghost use Prim.Native.Nat.{_≤_};
 ghost use lib.ListN.{length};
-ghost use Rattle.book.specs.Records.{headerSize, C, N, K, specialist, assetsStart, mitigantsStart};
+ghost use Rattle.book.specs.Records.{headerSize, C, N, K, specialist, assetsOf, mitigantsStart};
 ghost use Rattle.book.specs.Check.{countsFit, amountsFit, countsAdd, headerCheck, counterpartiesCheck, assetsCheck, mitigantsCheck, recordsCheck, specialistCheck, bookCheck};
 ghost use Rattle.book.specs.Accepted.{HeaderFits};
 
@@ -39,7 +40,7 @@ fn header_check(b: &[u8]) -> Checked
     ensures { λ r. ⌜ r ≡ headerCheck (now (b .entry)) ⌝ }
 {
     let mark = refusal::unless(Refusal::BookMark, book::marked(b));
-    let version = refusal::unless(Refusal::BookVersion, book::version(b) == book::VERSION);
+    let version = refusal::unless(Refusal::BookVersion, book::version_known(b));
     let counts = refusal::unless(Refusal::BookCounts, counts_fit(b));
     let amounts = refusal::unless(Refusal::BookAmounts, amounts_fit(b));
     refusal::and_then(
@@ -65,14 +66,14 @@ fn counterparties_check(b: &[u8], c: usize) -> Checked
     Checked::Fine
 }
 
-fn assets_check(b: &[u8], c: u16, n: usize, start: usize) -> Checked
-    requires { ⌜ HeaderFits (now b) × (c ≡ C (now b)) × (n ≡ N (now b)) × (start ≡ assetsStart (now b)) ⌝ }
+fn assets_check(b: &[u8], c: u16, n: usize, assets: Assets) -> Checked
+    requires { ⌜ HeaderFits (now b) × (c ≡ C (now b)) × (n ≡ N (now b)) × (assets ≡ assetsOf (now b)) ⌝ }
     ensures { λ r. ⌜ r ≡ assetsCheck (now (b .entry)) ⌝ }
 {
     let mut passed = 0;
     while passed < n {
         let place = passed + 1;
-        if !fields::good_asset(c, book::asset_at(b, start, place)) {
+        if !fields::good_asset(c, book::asset_at(b, assets, place)) {
             return Checked::Bad(Refusal::Asset(place as u16));
         }
         passed = place;
@@ -96,14 +97,14 @@ fn mitigants_check(b: &[u8], c: u16, k: usize, start: usize) -> Checked
 }
 
 // The counts of mitigants added up: 16 bits each, so they fit.
-fn counts_add(b: &[u8], n: usize, start: usize) -> usize
-    requires { ⌜ HeaderFits (now b) × (n ≡ N (now b)) × (start ≡ assetsStart (now b)) ⌝ }
+fn counts_add(b: &[u8], n: usize, assets: Assets) -> usize
+    requires { ⌜ HeaderFits (now b) × (n ≡ N (now b)) × (assets ≡ assetsOf (now b)) ⌝ }
     ensures { λ r. ⌜ r ≡ countsAdd (now (b .entry)) ⌝ }
 {
     let mut sum = 0;
     let mut place = 1;
     while place <= n {
-        let a = book::asset_at(b, start, place);
+        let a = book::asset_at(b, assets, place);
         sum += a.count as usize;
         place += 1;
     }
@@ -118,11 +119,11 @@ fn records_check(b: &[u8]) -> Checked
     let c = h.counterparties;
     let n = h.assets as usize;
     let k = h.mitigants as usize;
-    let start = book::assets_start(h);
+    let section = book::assets_of(b);
     let counterparties = counterparties_check(b, c as usize);
-    let assets = assets_check(b, c, n, start);
+    let assets = assets_check(b, c, n, section);
     let mitigants = mitigants_check(b, c, k, book::mitigants_start(h));
-    let counts = refusal::unless(Refusal::MitigantCounts, counts_add(b, n, start) == k);
+    let counts = refusal::unless(Refusal::MitigantCounts, counts_add(b, n, section) == k);
     refusal::and_then(
         counterparties,
         refusal::and_then(assets, refusal::and_then(mitigants, counts)),
@@ -131,14 +132,14 @@ fn records_check(b: &[u8]) -> Checked
 
 // ---- the entries, 17: the first asset, in book order, with one that a specialist fund alone may have
 
-fn specialist_check(b: &[u8], marked: bool, n: usize, start: usize) -> Checked
-    requires { ⌜ HeaderFits (now b) × (marked ≡ specialist (now b)) × (n ≡ N (now b)) × (start ≡ assetsStart (now b)) ⌝ }
+fn specialist_check(b: &[u8], marked: bool, n: usize, assets: Assets) -> Checked
+    requires { ⌜ HeaderFits (now b) × (marked ≡ specialist (now b)) × (n ≡ N (now b)) × (assets ≡ assetsOf (now b)) ⌝ }
     ensures { λ r. ⌜ r ≡ specialistCheck (now (b .entry)) ⌝ }
 {
     let mut passed = 0;
     while passed < n {
         let place = passed + 1;
-        if !fields::entry_allowed(marked, book::asset_at(b, start, place)) {
+        if !fields::entry_allowed(marked, book::asset_at(b, assets, place)) {
             return Checked::Bad(Refusal::SpecialistEntry(place as u16));
         }
         passed = place;
@@ -161,12 +162,7 @@ pub fn check(b: &[u8]) -> Checked
         Checked::Fine => {
             let h = book::header_at(b);
             let records = records_check(b);
-            let entries = specialist_check(
-                b,
-                h.specialist,
-                h.assets as usize,
-                book::assets_start(h),
-            );
+            let entries = specialist_check(b, h.specialist, h.assets as usize, book::assets_of(b));
             refusal::and_then(records, entries)
         }
     }

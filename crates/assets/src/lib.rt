@@ -1,12 +1,13 @@
 // The pass over the assets, by place: what there is of each to be covered or left, what may be covered, where its remainder is posted and where its mitigants
 // start; and the sums of the fund's values.
 use book::Asset;
+use book::Assets;
 ghost use mathlib.Core.Path.{_≡_};
 ghost use Prim.Native.Nat.{_+_, _*_, _-_, _^_, _≤_, _<_};
 ghost use lib.ListN.{length};
 ghost use Rattle.words.specs.Words.{if_then_else_};
 ghost use Rattle.wire.specs.Bytes.{M};
-ghost use Rattle.book.specs.Records.{mostAssets, N, assetsStart};
+ghost use Rattle.book.specs.Records.{mostAssets, N, assetsOf};
 ghost use Rattle.book.specs.Fields.{reinsurance};
 ghost use Rattle.book.specs.Accepted.{Accepted};
 ghost use Rattle.columns.specs.Column.{digit, ageOf};
@@ -159,7 +160,7 @@ fn mark_of(a: Asset, place: usize) -> u16
 // Every asset in book order.
 pub fn fill(
     b: &[u8],
-    start: usize,
+    assets: Assets,
     n: usize,
     words: &[u64],
     terms: &[u64],
@@ -169,7 +170,7 @@ pub fn fill(
     rests: &mut [u64],
     cells: &mut [u16],
 ) -> Values
-    requires { ⌜ (Accepted (now b)) × (start ≡ assetsStart (now b)) × (n ≡ N (now b)) × (Parties (now b) (now words) (now terms) (now rows)) × (Lent (now b) (now starts) (now caps) (now rests) (now cells)) ⌝ }
+    requires { ⌜ (Accepted (now b)) × (assets ≡ assetsOf (now b)) × (n ≡ N (now b)) × (Parties (now b) (now words) (now terms) (now rows)) × (Lent (now b) (now starts) (now caps) (now rests) (now cells)) ⌝ }
     ensures { λ r. ⌜ Valued (now (b .entry)) (now (starts .entry)) (now (caps .entry)) (now (rests .entry)) (now (cells .entry)) (now (starts .exit)) (now (caps .exit)) (now (rests .exit)) (now (cells .exit)) r ⌝ }
 {
     let mut v = Values {
@@ -182,7 +183,7 @@ pub fn fill(
     let mut first = 1;
     let mut place = 1;
     while place <= n {
-        let a = book::asset_at(b, start, place);
+        let a = book::asset_at(b, assets, place);
         let who = a.counterparty as usize;
         v = enter(
             a,

@@ -22,7 +22,7 @@ use Rattle.book.specs.declared.Asset.{Asset}
 use Rattle.book.specs.declared.Mitigant.{Mitigant}
 use Rattle.book.specs.Records.{headerSize, mostCounterparties, mostAssets, mostMitigants, C, N, K, specialist, total, base, excluded, bookSize, counterpartyStart, counterpartyAt, assetAt, mitigantAt}
 use Rattle.book.specs.Fields.{reinsurance}
-use Rattle.book.specs.Check.{bookMarked, countsFit, amountsFit, goodCounterparty, inBook, noReinsuranceFields, reinsuranceFieldsFit, amountsWithin, goodAsset, goodMitigant, entryAllowed, countsAdd, headerCheck, counterpartiesCheck, assetsCheck, mitigantsCheck, countsCheck, recordsCheck, specialistCheck, bookCheck}
+use Rattle.book.specs.Check.{bookMarked, versionKnown, countsFit, amountsFit, goodCounterparty, inBook, noReinsuranceFields, reinsuranceFieldsFit, amountsWithin, goodAsset, goodMitigant, entryAllowed, countsAdd, headerCheck, counterpartiesCheck, assetsCheck, mitigantsCheck, countsCheck, recordsCheck, specialistCheck, bookCheck}
 use Rattle.book.specs.Accepted.{Within, HeaderFits, AssetFits, MitigantFits, Accepted}
 
 -- ---- the header
@@ -35,8 +35,8 @@ unfolding headerCheck
 header-fits b e =
     let counts = refuse BookCounts unless countsFit b in
     let amounts = refuse BookAmounts unless amountsFit b in
-    let e1 = then-rest (refuse BookMark unless bookMarked b) ((refuse BookVersion unless u16At b 4 =? 1) andThen counts andThen amounts) e in
-    let e2 = then-rest (refuse BookVersion unless u16At b 4 =? 1) (counts andThen amounts) e1 in
+    let e1 = then-rest (refuse BookMark unless bookMarked b) ((refuse BookVersion unless versionKnown b) andThen counts andThen amounts) e in
+    let e2 = then-rest (refuse BookVersion unless versionKnown b) (counts andThen amounts) e1 in
     let w = each-true (C b ≤? mostCounterparties) ((N b ≤? mostAssets) ∷ (K b ≤? mostMitigants) ∷ (length b =? bookSize b) ∷ []) (unless-fine BookCounts (countsFit b) (then-first counts amounts e2)) in
     let v = each-true (total b ≤? M) ((excluded b ≤? M) ∷ leZ (negℤ (pos M)) (base b) ∷ leZ (base b) (pos M) ∷ []) (unless-fine BookAmounts (amountsFit b) (then-rest counts amounts e2)) in
     record {

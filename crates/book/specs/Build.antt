@@ -1,6 +1,6 @@
 -- Books out of numbers, as bytes, for worked cases.
---   counterparty asset mitigant   the bytes of a record
---   bookBytes specialistBytes     the bytes of a book, and of one that is a specialist fund's
+--   counterparty asset deskAsset mitigant   the bytes of a record, an asset's of version 1 and of version 2
+--   bookBytes specialistBytes deskBytes     the bytes of a book, of one that is a specialist fund's, and of one of version 2
 --   bookComputed                  opens every definition on the way from them to a check
 use mathlib.Core.List.{List, [], _∷_, _++_}
 use Prim.Native.Nat.{ℕ, _+_, _*_}
@@ -9,7 +9,7 @@ use Rattle.words.specs.Words.{sumOf, eachOf}
 use Rattle.wire.specs.Bytes.{u16At, u64At, i64At, bytes16, bytes64}
 use Rattle.refusal.specs.declared.Checked.{Checked}
 use Rattle.refusal.specs.Chain.{firstBad}
-use Rattle.book.specs.Records.{headerAt, counterpartyAt, assetAt, mitigantAt}
+use Rattle.book.specs.Records.{headerAt, counterpartyAt, assetFrom, mitigantAt}
 use Rattle.book.specs.Book.{mitigantsFrom, holdingsFrom, bookOf, parentOf, topIn, topOf}
 use Rattle.book.specs.Check.{goodCounterparty, goodAsset, goodMitigant, countsAdd, headerCheck, counterpartiesCheck, assetsCheck, mitigantsCheck, countsCheck, recordsCheck, specialistCheck, bookCheck}
 
@@ -21,6 +21,12 @@ counterparty parent kind grade flags = bytes16 parent ++ ((kind * 16 + grade) �
 abbrev pub asset : ℕ → ℕ → ℕ → ℕ → ℕ → ℕ → ℕ → ℕ → ℕ → ℕ → ℕ → List ℕ
 asset kind flags entry months who count value offsets deductions insurance combination =
     (kind ∷ flags ∷ entry ∷ months ∷ []) ++ bytes16 who ++ bytes16 count
+    ++ bytes64 value ++ bytes64 offsets ++ bytes64 deductions ++ bytes64 insurance ++ bytes64 combination
+
+-- the same in version 2, with the desk first: kind, flags, entry, months, counterparty, count of mitigants; the five amounts
+abbrev pub deskAsset : ℕ → ℕ → ℕ → ℕ → ℕ → ℕ → ℕ → ℕ → ℕ → ℕ → ℕ → ℕ → List ℕ
+deskAsset desk kind flags entry months who count value offsets deductions insurance combination =
+    (kind ∷ flags ∷ entry ∷ months ∷ []) ++ bytes16 who ++ (count ∷ desk ∷ [])
     ++ bytes64 value ++ bytes64 offsets ++ bytes64 deductions ++ bytes64 insurance ++ bytes64 combination
 
 -- a mitigant's 12 bytes: form, flags, counterparty, value
@@ -39,7 +45,11 @@ bookBytes total base excluded counterparties assets mitigants =
 unfoldable pub specialistBytes : ℕ → ℕ → ℕ → List (List ℕ) → List (List ℕ) → List (List ℕ) → List ℕ
 specialistBytes total base excluded counterparties assets mitigants = set (bookBytes total base excluded counterparties assets mitigants) 12 1
 
+-- the same in version 2
+unfoldable pub deskBytes : ℕ → ℕ → ℕ → List (List ℕ) → List (List ℕ) → List (List ℕ) → List ℕ
+deskBytes total base excluded counterparties assets mitigants = set (bookBytes total base excluded counterparties assets mitigants) 4 2
+
 -- the check of a book, with every definition on the way opened: a proof that says `unfolding bookComputed` computes it
 unfoldable pub bookComputed : List ℕ → Checked
-unfolding sumOf eachOf u16At u64At i64At bookBytes specialistBytes firstBad headerAt counterpartyAt assetAt mitigantAt mitigantsFrom holdingsFrom bookOf parentOf topIn topOf goodCounterparty goodAsset goodMitigant countsAdd headerCheck counterpartiesCheck assetsCheck mitigantsCheck countsCheck recordsCheck specialistCheck bookCheck
+unfolding sumOf eachOf u16At u64At i64At bookBytes specialistBytes deskBytes firstBad headerAt counterpartyAt assetFrom mitigantAt mitigantsFrom holdingsFrom bookOf parentOf topIn topOf goodCounterparty goodAsset goodMitigant countsAdd headerCheck counterpartiesCheck assetsCheck mitigantsCheck countsCheck recordsCheck specialistCheck bookCheck
 bookComputed b = bookCheck b

@@ -1,5 +1,5 @@
 -- Refusals 5 to 13, and C-11's 17.
---   bookMarked countsFit amountsFit              the header's tests
+--   bookMarked versionKnown countsFit amountsFit   the header's tests
 --   goodCounterparty goodAsset goodMitigant      a record's; inBook, noReinsuranceFields, reinsuranceFieldsFit, amountsWithin are parts of them
 --   countsAdd                                    the counts of mitigants added up
 --   entryAllowed                                 whether an asset's entry may stand in a book that is a specialist fund's or not
@@ -19,7 +19,7 @@ use Rattle.refusal.specs.declared.Refusal.the-variants.{BookLength, BookMark, B
 use Rattle.refusal.specs.Chain.{refuse_unless_, _andThen_, refuseEach}
 use Rattle.book.specs.declared.Asset.{Asset}
 use Rattle.book.specs.declared.Mitigant.{Mitigant}
-use Rattle.book.specs.Records.{headerSize, mostCounterparties, mostAssets, mostMitigants, C, N, K, specialist, total, base, excluded, bookSize, counterpartyStart, assetAt, mitigantAt}
+use Rattle.book.specs.Records.{headerSize, mostCounterparties, mostAssets, mostMitigants, version, C, N, K, specialist, total, base, excluded, bookSize, counterpartyStart, assetAt, mitigantAt}
 use Rattle.book.specs.Fields.{reinsurance, rises}
 use Rattle.book.specs.Book.{Holding, holdingsFrom}
 
@@ -28,6 +28,10 @@ abbrev pub bookMarked : List ℕ → Bool
 bookMarked b =
     byteAt b 0 =? 65 && byteAt b 1 =? 67 && byteAt b 2 =? 66 && byteAt b 3 =? 0
     && byteAt b 12 ≤? 1 && byteAt b 13 =? 0 && byteAt b 14 =? 0 && byteAt b 15 =? 0
+
+-- "its version"; C-13: "Refusal 7 now passes versions 1 and 2"
+abbrev pub versionKnown : List ℕ → Bool
+versionKnown b = version b =? 1 || version b =? 2
 
 -- "C ≤ 500, N ≤ 900, K ≤ 1,500"; "Length is 40 + 4C + 48N + 12K"
 abbrev pub countsFit : List ℕ → Bool
@@ -85,7 +89,7 @@ entryAllowed specialist a = specialist || not (a .entry =? 3)
 unfoldable pub headerCheck : List ℕ → Checked
 headerCheck b =
     (refuse BookMark unless bookMarked b)
-    andThen (refuse BookVersion unless u16At b 4 =? 1)
+    andThen (refuse BookVersion unless versionKnown b)
     andThen (refuse BookCounts unless countsFit b)
     andThen (refuse BookAmounts unless amountsFit b)
 

@@ -1,9 +1,10 @@
--- A header that was read, field by field: header-counts, header-amounts, header-specialist.
+-- What was read of a header, field by field: header-counts, header-amounts, header-specialist; of where the assets stand: assets-start, assets-counts.
 use mathlib.Core.List.{List}
 use mathlib.Core.Path.{_≡_, ap}
 use Prim.Native.Nat.{ℕ}
 use Rattle.book.specs.declared.Header.{Header}
-use Rattle.book.specs.Records.{C, N, K, specialist, total, base, excluded, headerAt}
+use Rattle.book.specs.declared.Assets.{Assets}
+use Rattle.book.specs.Records.{C, N, K, specialist, total, base, excluded, headerAt, assetsStart, countMask, assetsOf}
 
 module _ (b : List ℕ) {h : Header} (e : h ≡ headerAt b) where
   pub header-counts : (h .counterparties ≡ C b) × (h .assets ≡ N b) × (h .mitigants ≡ K b)
@@ -17,3 +18,12 @@ module _ (b : List ℕ) {h : Header} (e : h ≡ headerAt b) where
   pub header-specialist : h .specialist ≡ specialist b
   unfolding headerAt
   header-specialist = ap (λ (x : Header). x .specialist) e
+
+module _ (b : List ℕ) {a : Assets} (e : a ≡ assetsOf b) where
+  pub assets-start : a .start ≡ assetsStart b
+  unfolding assetsOf
+  assets-start = ap (λ (x : Assets). x .start) e
+
+  pub assets-counts : a .counts ≡ countMask b
+  unfolding assetsOf
+  assets-counts = ap (λ (x : Assets). x .counts) e

@@ -1,10 +1,13 @@
 -- "Book": what stands where in its bytes.
 --   headerSize counterpartySize assetSize mitigantSize   how many bytes the header and a record of each type have
 --   mostCounterparties mostAssets mostMitigants          the most records of each type
---   C N K total base excluded specialist headerAt        what the header says, and all of it together
+--   version C N K total base excluded specialist headerAt   what the header says, and all of it behind the version together
 --   assetsStart mitigantsStart bookSize                  where a section starts, and how many bytes its counts give a book
 --   counterpartyStart assetStart mitigantStart           where the record of a place starts
 --   kindOf                                               the kind of a number
+--   countFrom deskFrom                                   what the version makes of an asset's bytes 6 and 7
+--   countMask assetsOf                                   where the assets stand, for the code
+--   assetFrom                                            the asset whose record starts at a byte
 --   counterpartyAt assetAt mitigantAt                    the record of a place
 use mathlib.Core.Bool.{Bool}
 use mathlib.Core.List.{List}
@@ -17,6 +20,7 @@ use Rattle.book.specs.declared.Kind.the-variants.{Other, Bank, HomeGover
 use Rattle.book.specs.declared.Header.{Header}
 use Rattle.book.specs.declared.Counterparty.{Counterparty}
 use Rattle.book.specs.declared.Asset.{Asset}
+use Rattle.book.specs.declared.Assets.{Assets}
 use Rattle.book.specs.declared.Mitigant.{Mitigant}
 
 -- "Header, 40 bytes"
@@ -46,6 +50,10 @@ mostAssets = 900
 -- "K ≤ 1,500"
 abbrev pub mostMitigants : ℕ
 mostMitigants = 1500
+
+-- "u16 version 1", and C-13's "Book version 2"
+abbrev pub version : List ℕ → ℕ
+version b = u16At b 4
 
 -- "u16 counterparties C ≤ 500, u16 assets N ≤ 900, u16 mitigants K ≤ 1,500"
 abbrev pub C : List ℕ → ℕ
@@ -125,24 +133,43 @@ counterpartyAt b place =
       flags = byteAt b (at + 3);
     }
 
+-- "u16 count of mitigants"; C-13: "Book version 2 narrows the count of mitigants from two bytes to byte 6"
+abbrev pub countFrom : List ℕ → ℕ → ℕ
+countFrom b at = if version b =? 2 then byteAt b (at + 6) else u16At b (at + 6)
+
+-- C-13: "and byte 7 holds the desk, 0 to 255"; a book of version 1 has desk 0 alone
+abbrev pub deskFrom : List ℕ → ℕ → ℕ
+deskFrom b at = if version b =? 2 then byteAt b (at + 7) else 0
+
+-- the most that a count of mitigants can be, a mask of bytes 6 and 7
+abbrev pub countMask : List ℕ → ℕ
+countMask b = if version b =? 2 then 255 else 65535
+
+-- where the assets start, and that mask
+unfoldable pub assetsOf : List ℕ → Assets
+assetsOf b = record { start = assetsStart b; counts = countMask b }
+
 -- "Asset, 48 bytes: kind 1 to 11; flags (..); entry class (..); completed months since downgrade (..); u16 counterparty (..);
--- u16 count of mitigants; u64 value, offsets, deductions, insurance stress, combination stress"
-unfoldable pub assetAt : List ℕ → ℕ → Asset
-assetAt b place =
-    let at = assetStart b place in
+-- u16 count of mitigants; u64 value, offsets, deductions, insurance stress, combination stress", and C-13's desk
+unfoldable pub assetFrom : List ℕ → ℕ → Asset
+assetFrom b at =
     record {
       kind = byteAt b at;
       flags = byteAt b (at + 1);
       entry = byteAt b (at + 2);
       months = byteAt b (at + 3);
       counterparty = u16At b (at + 4);
-      count = u16At b (at + 6);
+      count = countFrom b at;
+      desk = deskFrom b at;
       value = u64At b (at + 8);
       offsets = u64At b (at + 16);
       deductions = u64At b (at + 24);
       insurance = u64At b (at + 32);
       combination = u64At b (at + 40);
     }
+
+abbrev pub assetAt : List ℕ → ℕ → Asset
+assetAt b place = assetFrom b (assetStart b place)
 
 -- "Mitigant, 12 bytes, in asset order: form (..); flags (..); u16 counterparty; u64 value"
 unfoldable pub mitigantAt : List ℕ → ℕ → Mitigant

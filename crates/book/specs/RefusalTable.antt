@@ -2,10 +2,12 @@
 --   examples    document 01's example of each refusal
 --   headers     both sides of each edge of a header
 --   edges       both sides of each edge of a record's fields
+--   versions    what a version makes of bytes 6 and 7 of an asset
 --   specialists both sides of each edge of 17 and of what a specialist fund may have
 --   two-faults  the lower number and the first record win, 17 behind 13
 use mathlib.Core.Bool.{Bool, _&&_}
-use mathlib.Core.List.{List, [], _∷_, _++_}
+use mathlib.Core.List.{List, [], _∷_, _++_, map}
+use mathlib.Core.Path.{_≡_, refl}
 use Prim.Native.Nat.{ℕ, _+_, _-_}
 use lib.Dec.{T}
 use lib.ListN.{set, take, replicate}
@@ -14,8 +16,9 @@ use Rattle.wire.specs.Bytes.{M}
 use Rattle.refusal.specs.declared.Checked.{Checked}
 use Rattle.refusal.specs.declared.Checked.the-variants.{Fine, Bad}
 use Rattle.refusal.specs.Refusals.{numberOf, placeOf}
+use Rattle.book.specs.Records.{assetAt}
 use Rattle.book.specs.Check.{bookCheck}
-use Rattle.book.specs.Build.{counterparty, asset, mitigant, bookBytes, specialistBytes, bookComputed}
+use Rattle.book.specs.Build.{counterparty, asset, deskAsset, mitigant, bookBytes, specialistBytes, deskBytes, bookComputed}
 
 -- a book, and its refusal's number and place; 0 and 0 for none
 pub record Case : Type 0 where
@@ -70,6 +73,13 @@ specialist counterparties assets mitigants = specialistBytes 100 10 0 counterpar
 abbrev retroceded : ℕ → List ℕ
 retroceded months = asset 9 0 3 months 1 0 0 0 0 0 0
 
+-- one name, one asset with byte 6 and byte 7, and so many mitigants, in version 1 and in version 2
+abbrev inFirst : ℕ → ℕ → ℕ → List ℕ
+inFirst six seven k = book (name ∷ []) (deskAsset seven 11 0 0 0 1 six 0 0 0 0 0 ∷ []) (replicate k (mitigant 1 0 1 0))
+
+abbrev withDesks : ℕ → ℕ → ℕ → List ℕ
+withDesks six seven k = deskBytes 100 10 0 (name ∷ []) (deskAsset seven 11 0 0 0 1 six 0 0 0 0 0 ∷ []) (replicate k (mitigant 1 0 1 0))
+
 -- −n as 64 bits
 abbrev minus : ℕ → ℕ
 minus n = 18446744073709551616 - n
@@ -110,8 +120,12 @@ headers =
     ∷ (set empty 13 1 gives 6 at 0)
     ∷ (set empty 14 1 gives 6 at 0)
     ∷ (set empty 15 1 gives 6 at 0)
-    ∷ (set empty 4 2 gives 7 at 0)
+    -- versions 1 and 2, and no other
+    ∷ fine (set empty 4 2)
+    ∷ (set empty 4 3 gives 7 at 0)
+    ∷ (set empty 4 255 gives 7 at 0)
     ∷ (set empty 5 1 gives 7 at 0)
+    ∷ (set (set empty 4 2) 5 1 gives 7 at 0)
     -- a header that lies about its counts, a byte more, a byte less
     ∷ (set empty 6 1 gives 8 at 0)
     ∷ (set empty 8 1 gives 8 at 0)
@@ -179,6 +193,25 @@ edges =
     ∷ (book (name ∷ []) (asset 11 0 0 0 1 32768 0 0 0 0 0 ∷ asset 11 0 0 0 1 32769 0 0 0 0 0 ∷ []) (mitigant 1 0 1 0 ∷ []) gives 13 at 0)
     ∷ []
 
+unfoldable pub versions : List Case
+versions =
+    -- version 2: byte 7 is no part of the count
+    fine (withDesks 0 0 0)
+    ∷ fine (withDesks 0 255 0)
+    ∷ fine (withDesks 1 1 1)
+    ∷ (withDesks 1 1 2 gives 13 at 0)
+    -- version 1: it is
+    ∷ (inFirst 1 1 1 gives 13 at 0)
+    ∷ (inFirst 0 255 0 gives 13 at 0)
+    -- a specialist fund's book may be of version 2
+    ∷ fine (set (deskBytes 100 10 0 (name ∷ []) (deskAsset 9 9 0 3 0 1 0 0 0 0 0 0 ∷ []) []) 12 1)
+    ∷ (deskBytes 100 10 0 (name ∷ []) (deskAsset 9 9 0 3 0 1 0 0 0 0 0 0 ∷ []) [] gives 17 at 1)
+    ∷ []
+
+-- the count and the desk that are read of the one asset
+abbrev countAndDesk : List ℕ → List ℕ
+countAndDesk b = assetAt b 1 .count ∷ assetAt b 1 .desk ∷ []
+
 unfoldable pub specialists : List Case
 specialists =
     -- entries 0 to 3 in a specialist fund, 0 to 2 in another
@@ -231,6 +264,14 @@ headers-hold = tt
 pub edges-hold : T (every right edges)
 unfolding bookComputed every right edges
 edges-hold = tt
+
+pub versions-hold : T (every right versions)
+unfolding bookComputed every right versions
+versions-hold = tt
+
+pub counts-and-desks : map countAndDesk (withDesks 0 0 0 ∷ withDesks 1 1 0 ∷ withDesks 255 255 0 ∷ inFirst 0 0 0 ∷ inFirst 1 1 0 ∷ inFirst 255 0 0 ∷ inFirst 0 1 0 ∷ inFirst 255 255 0 ∷ []) ≡ (0 ∷ 0 ∷ []) ∷ (1 ∷ 1 ∷ []) ∷ (255 ∷ 255 ∷ []) ∷ (0 ∷ 0 ∷ []) ∷ (0x0101 ∷ 0 ∷ []) ∷ (255 ∷ 0 ∷ []) ∷ (256 ∷ 0 ∷ []) ∷ (65535 ∷ 0 ∷ []) ∷ []
+unfolding bookComputed
+counts-and-desks = refl
 
 pub specialists-hold : T (every right specialists)
 unfolding bookComputed every right specialists

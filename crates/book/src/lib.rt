@@ -2,12 +2,16 @@
 ghost use mathlib.Core.Path.{_≡_};
 ghost use Prim.Native.Nat.{_+_, _*_, _-_, _/_, _%_, _<_, _≤_};
 ghost use lib.ListN.{length};
-ghost use Rattle.wire.specs.Bytes.{u16At, bit};
-ghost use Rattle.book.specs.Records.{headerSize, counterpartySize, assetSize, mitigantSize, assetsStart, mitigantsStart, counterpartyStart, kindOf, headerAt, counterpartyAt, assetAt, mitigantAt};
-ghost use Rattle.book.specs.Check.{bookMarked};
+ghost use Rattle.words.specs.Words.{_=?_};
+ghost use Rattle.wire.specs.Bytes.{bit};
+ghost use Rattle.book.specs.Records.{headerSize, version, counterpartySize, assetSize, mitigantSize, assetsStart, mitigantsStart, counterpartyStart, kindOf, headerAt, countMask, assetsOf, counterpartyAt, assetFrom, assetAt, mitigantAt};
+ghost use Rattle.book.specs.Check.{bookMarked, versionKnown};
 ghost use Rattle.book.specs.Fields.{kindNumber, graded, linked, rises, reinsurance};
 
-pub const VERSION: u16 = 1;
+// The versions: in the second a count of mitigants has one byte, and the byte behind it is the desk.
+const FIRST: u16 = 1;
+
+const WITH_DESKS: u16 = 2;
 
 // How many bytes the header and a record of each type have.
 pub const HEADER_SIZE: usize = 40;
@@ -59,11 +63,18 @@ pub struct Asset {
     pub months: u8,
     pub counterparty: u16,
     pub count: u16,
+    pub desk: u8,
     pub value: u64,
     pub offsets: u64,
     pub deductions: u64,
     pub insurance: u64,
     pub combination: u64,
+}
+
+// Where the assets stand: the first one's start, and the mask of an asset's bytes 6 and 7 that leaves its count of mitigants.
+pub struct Assets {
+    pub start: usize,
+    pub counts: u16,
 }
 
 pub struct Mitigant {
@@ -115,11 +126,26 @@ pub fn marked(b: &[u8]) -> bool
         & (b[15] == 0)
 }
 
-pub fn version(b: &[u8]) -> u16
+// Whether a book is of the first version, and whether of any.
+pub fn is_first(b: &[u8]) -> bool
     requires { ⌜ headerSize ≤ length (now b) ⌝ }
-    ensures { λ r. ⌜ r ≡ u16At (now (b .entry)) 4 ⌝ }
+    ensures { λ r. ⌜ r ≡ (version (now (b .entry)) =? 1) ⌝ }
 {
-    wire::u16_at(b, 4)
+    wire::u16_at(b, 4) == FIRST
+}
+
+fn has_desks(b: &[u8]) -> bool
+    requires { ⌜ headerSize ≤ length (now b) ⌝ }
+    ensures { λ r. ⌜ r ≡ (version (now (b .entry)) =? 2) ⌝ }
+{
+    wire::u16_at(b, 4) == WITH_DESKS
+}
+
+pub fn version_known(b: &[u8]) -> bool
+    requires { ⌜ headerSize ≤ length (now b) ⌝ }
+    ensures { λ r. ⌜ r ≡ versionKnown (now (b .entry)) ⌝ }
+{
+    is_first(b) | has_desks(b)
 }
 
 pub fn header_at(b: &[u8]) -> Header
@@ -161,7 +187,7 @@ pub fn counterparty_at(b: &[u8], place: usize) -> Counterparty
 }
 
 // Where the assets start, where the mitigants, and how many bytes there are to the last of these.
-pub fn assets_start(h: Header) -> usize
+fn assets_start(h: Header) -> usize
     ensures { λ r. ⌜ r ≡ headerSize + counterpartySize * h .counterparties ⌝ }
 {
     HEADER_SIZE + COUNTERPARTY_SIZE * h.counterparties as usize
@@ -179,25 +205,45 @@ pub fn size(h: Header) -> usize
     mitigants_start(h) + MITIGANT_SIZE * h.mitigants as usize
 }
 
-// The asset of a place. Where the assets start is the caller's to know: in a loop it is then read once.
-pub fn asset_at(b: &[u8], start: usize, place: usize) -> Asset
-    requires { ⌜ (start ≡ assetsStart (now b)) × (0 < place) × (place < 65536) × (start + assetSize * place ≤ length (now b)) ⌝ }
-    ensures { λ r. ⌜ r ≡ assetAt (now (b .entry)) place ⌝ }
+// Where the assets stand, from which alone `asset_at` knows of versions. The caller keeps it: a loop then reads it once.
+pub fn assets_of(b: &[u8]) -> Assets
+    requires { ⌜ headerSize ≤ length (now b) ⌝ }
+    ensures { λ r. ⌜ r ≡ assetsOf (now (b .entry)) ⌝ }
 {
-    let at = start + ASSET_SIZE * (place - 1);
+    let h = header_at(b);
+    Assets {
+        start: assets_start(h),
+        counts: choice::short(has_desks(b), 255, 65535),
+    }
+}
+
+// The asset whose record starts at a byte.
+fn asset_from(b: &[u8], at: usize, counts: u16) -> Asset
+    requires { ⌜ (at + assetSize ≤ length (now b)) × (counts ≡ countMask (now b)) ⌝ }
+    ensures { λ r. ⌜ r ≡ assetFrom (now (b .entry)) at ⌝ }
+{
     Asset {
         kind: b[at],
         flags: b[at + 1],
         entry: b[at + 2],
         months: b[at + 3],
         counterparty: wire::u16_at(b, at + 4),
-        count: wire::u16_at(b, at + 6),
+        count: wire::masked_at(b, at + 6, counts),
+        desk: choice::byte(counts == 255, b[at + 7], 0),
         value: wire::u64_at(b, at + 8),
         offsets: wire::u64_at(b, at + 16),
         deductions: wire::u64_at(b, at + 24),
         insurance: wire::u64_at(b, at + 32),
         combination: wire::u64_at(b, at + 40),
     }
+}
+
+// The asset of a place.
+pub fn asset_at(b: &[u8], assets: Assets, place: usize) -> Asset
+    requires { ⌜ (assets ≡ assetsOf (now b)) × (0 < place) × (place < 65536) × (assetsStart (now b) + assetSize * place ≤ length (now b)) ⌝ }
+    ensures { λ r. ⌜ r ≡ assetAt (now (b .entry)) place ⌝ }
+{
+    asset_from(b, assets.start + ASSET_SIZE * (place - 1), assets.counts)
 }
 
 // The mitigant of a place, where the mitigants start at `start`.

@@ -13,3 +13,4 @@ pub mod Retrocession
 pub mod Faults
 pub mod Edges
 pub mod Buffer
+pub mod Desks

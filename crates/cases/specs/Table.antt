@@ -5,7 +5,7 @@ use Prim.Native.Nat.{ℕ}
 use lib.ListN.{length}
 use Rattle.words.specs.Words.{_=?_}
 use Rattle.refusal.specs.declared.Answer.{Answer}
-use Rattle.refusal.specs.declared.Answer.the-variants.{Report, Refused}
+use Rattle.refusal.specs.declared.Answer.the-variants.{Written, Refused}
 use Rattle.refusal.specs.Refusals.{numberOf, placeOf}
 use Rattle.schedule.specs.Schedule.{published, scheduleBytes}
 use Rattle.report.specs.Answer.{reportOf, answerOf}
@@ -33,12 +33,12 @@ same (x ∷ xs) (y ∷ ys) = x =? y && same xs ys
 
 -- "The answer carries the report's length"
 abbrev pub accepted : Answer → ℕ → Bool
-accepted (Report n) length = n =? length
+accepted (Written n) length = n =? length
 accepted (Refused why) length = false
 
 -- "A refusal is a number and a place"
 abbrev pub turned : Answer → ℕ → ℕ → Bool
-turned (Report n) number place = false
+turned (Written n) number place = false
 turned (Refused why) number place = numberOf why =? number && placeOf why =? place
 
 -- the answer is the report of the case, for a buffer of 65,536 bytes, and it reads as it should

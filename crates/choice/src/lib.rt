@@ -15,6 +15,12 @@ pub fn short(t: bool, a: u16, b: u16) -> u16
     if t { a } else { b }
 }
 
+pub fn byte(t: bool, a: u8, b: u8) -> u8
+    ensures { λ r. ⌜ r ≡ (if t then a else b) ⌝ }
+{
+    if t { a } else { b }
+}
+
 pub fn test(t: bool, a: bool, b: bool) -> bool
     ensures { λ r. ⌜ r ≡ (if t then a else b) ⌝ }
 {

@@ -34,6 +34,7 @@ asset kind flags who value offsets deductions insurance combination =
       months = 0;
       counterparty = who;
       count = 0;
+      desk = 0;
       value = value;
       offsets = offsets;
       deductions = deductions;

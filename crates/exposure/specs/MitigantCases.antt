@@ -119,6 +119,7 @@ downgraded =
       months = 11;
       counterparty = 1;
       count = 1;
+      desk = 0;
       value = 100;
       offsets = 0;
       deductions = 0;

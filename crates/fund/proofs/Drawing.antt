@@ -21,12 +21,8 @@ use Rattle.cells.specs.CellLaws.{placed, tabled}
 use Rattle.fund.specs.Fund.{Lent, sumsOf, Drew, Exposed, Summed}
 
 -- where the sections start, out of the header
-module _ (b : List ℕ) {h : Header} (e : h ≡ headerAt b) where
-  pub assets-from : {n : ℕ} → n ≡ headerSize + counterpartySize * h .counterparties → n ≡ assetsStart b
-  assets-from q = let k = header-counts b e in omega (arith, k .0)
-
-  pub mitigants-from : {n : ℕ} → n ≡ headerSize + counterpartySize * h .counterparties + assetSize * h .assets → n ≡ mitigantsStart b
-  mitigants-from q = let k = header-counts b e in omega (arith, k .0, k .1)
+pub mitigants-from : (b : List ℕ) {h : Header} → h ≡ headerAt b → {n : ℕ} → n ≡ headerSize + counterpartySize * h .counterparties + assetSize * h .assets → n ≡ mitigantsStart b
+mitigants-from b e q = let k = header-counts b e in omega (arith, k .0, k .1)
 
 pub known : {b words terms rows : List ℕ} → Parties b words terms rows → Known b terms
 known p = record { size = p .terms-size; each = p .term }

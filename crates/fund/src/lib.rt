@@ -61,7 +61,7 @@ fn draw(
     let h = book::header_at(book);
     let n = h.assets as usize;
     let k = h.mitigants as usize;
-    let first = book::assets_start(h);
+    let first = book::assets_of(book);
     let behind = book::mitigants_start(h);
     let values = assets::fill(
         book,

@@ -9,7 +9,7 @@ use Rattle.refusal.specs.declared.Refusal.{Refusal}
 use Rattle.refusal.specs.declared.Checked.{Checked}
 use Rattle.refusal.specs.declared.Checked.the-variants.{Fine, Bad}
 use Rattle.refusal.specs.declared.Answer.{Answer}
-use Rattle.refusal.specs.declared.Answer.the-variants.{Report, Refused}
+use Rattle.refusal.specs.declared.Answer.the-variants.{Written, Refused}
 
 infix 20 refuse_unless_
 infixr 10 _andThen_
@@ -32,7 +32,7 @@ firstBad why good p (suc more) = (refuse why p unless good p) andThen firstBad w
 abbrev pub refuseEach : (ℕ → Refusal) → (ℕ → Bool) → ℕ → Checked
 refuseEach why good n = firstBad why good 1 n
 
--- "The answer carries the report's length"
+-- "The answer carries the report's length", and that of whatever else an entry writes
 abbrev pub answerBy : Checked → ℕ → Answer
-answerBy Fine length = Report length
+answerBy Fine length = Written length
 answerBy (Bad why) length = Refused why

@@ -1,4 +1,4 @@
--- Laws of the chain of checks: then-first, then-rest, unless-fine, each-good say what a chain that found nothing says of its links.
+-- Laws of the chain of checks: then-first, then-rest, unless-fine, each-good say what a chain that found nothing says of its links; first-same: tests that agree find the same.
 use mathlib.Core.Bool.{Bool, true, false}
 use mathlib.Core.Path.{_≡_, refl}
 use Prim.Native.Nat.{ℕ, zero, suc, _+_, _≤_, _<_}
@@ -35,3 +35,9 @@ each-good why good (suc more) p e q l h = by (eqb q p) refl (each-good why good 
     by : (t : Bool) → eqb q p ≡ t → (p + 1 ≤ q → q < p + 1 + more → good q ≡ true) → good q ≡ true
     by true s r = rw (eqb-true q p s) (unless-fine (why p) (good p) (then-first (refuse why p unless good p) (firstBad why good (p + 1) more) e))
     by false s r = r (omega (arith, eqb-false q p s)) (omega arith)
+
+-- two tests that agree on the records find the same first bad one
+pub first-same : (why : ℕ → Refusal) (f g : ℕ → Bool) (more p : ℕ) → ((q : ℕ) → p ≤ q → q < p + more → f q ≡ g q) → firstBad why f p more ≡ firstBad why g p more
+unfolding firstBad
+first-same why f g zero p h = refl
+first-same why f g (suc more) p h = rw (h p (omega arith) (omega arith), first-same why f g more (p + 1) (λ q l k. h q (omega arith) (omega arith)))

@@ -4,7 +4,7 @@ ghost use Prim.Native.Nat.{_<_, _≤_};
 ghost use Rattle.refusal.specs.Refusals.{numberOf, placeOf};
 ghost use Rattle.refusal.specs.Chain.{refuse_unless_, _andThen_};
 
-// The refusals in the order of their numbers, 1 to 17. Those of a record carry its place, from 1.
+// The refusals in the order of their numbers, 1 to 18. Those of a record carry its place, from 1.
 pub enum Refusal {
     ScheduleLength,
     ScheduleMark,
@@ -23,6 +23,7 @@ pub enum Refusal {
     StressedAssets,
     BufferShort,
     SpecialistEntry(u16),
+    ManyMitigants(u16),
 }
 
 // What a section of checks finds.
@@ -31,15 +32,15 @@ pub enum Checked {
     Bad(Refusal),
 }
 
-// The answer: a report with its length, or a refusal.
+// The answer of an entry: how many bytes it wrote, or a refusal.
 pub enum Answer {
-    Report(usize),
+    Written(usize),
     Refused(Refusal),
 }
 
 // The refusal's number.
 pub fn number(why: Refusal) -> u64
-    ensures { λ r. ⌜ (r ≡ numberOf why) × (r ≤ 17) ⌝ }
+    ensures { λ r. ⌜ (r ≡ numberOf why) × (r ≤ 18) ⌝ }
 {
     match why {
         Refusal::ScheduleLength => 1,
@@ -59,6 +60,7 @@ pub fn number(why: Refusal) -> u64
         Refusal::StressedAssets => 15,
         Refusal::BufferShort => 16,
         Refusal::SpecialistEntry(_) => 17,
+        Refusal::ManyMitigants(_) => 18,
     }
 }
 
@@ -84,6 +86,7 @@ pub fn place(why: Refusal) -> u64
         Refusal::StressedAssets => 0,
         Refusal::BufferShort => 0,
         Refusal::SpecialistEntry(p) => p as u64,
+        Refusal::ManyMitigants(p) => p as u64,
     }
 }
 

@@ -5,7 +5,7 @@ use Prim.Native.Nat.{ℕ, _≤_, _<_}
 use lib.ListN.{length}
 use borrow.Author.Tests.{le-leb, lt-leb}
 use Rattle.refusal.specs.declared.Checked.the-variants.{Fine, Bad}
-use Rattle.refusal.specs.declared.Answer.the-variants.{Report, Refused}
+use Rattle.refusal.specs.declared.Answer.the-variants.{Written, Refused}
 use Rattle.refusal.specs.declared.Refusal.{Refusal}
 use Rattle.refusal.specs.declared.Refusal.the-variants.{BufferShort}
 use Rattle.schedule.specs.Check.{scheduleCheck}
@@ -38,6 +38,6 @@ module _ (schedule book before : List ℕ) where
       unfolding checkOf
       short l = refused (rw (p .of-schedule, p .of-book, f, lt-leb (length (reportOf schedule book)) (length before) l) refl)
 
-      pub fine : length (reportOf schedule book) ≤ length before → Report (length (reportOf schedule book)) ≡ answerOf schedule book (length before)
+      pub fine : length (reportOf schedule book) ≤ length before → Written (length (reportOf schedule book)) ≡ answerOf schedule book (length before)
       unfolding checkOf answerOf
       fine l = rw (p .of-schedule, p .of-book, f, le-leb (length (reportOf schedule book)) (length before) l) refl

@@ -14,7 +14,7 @@ use Rattle.wire.specs.Bytes.{M}
 use Rattle.refusal.specs.declared.Checked.{Checked}
 use Rattle.refusal.specs.declared.Checked.the-variants.{Fine, Bad}
 use Rattle.refusal.specs.declared.Refusal.{Refusal}
-use Rattle.refusal.specs.declared.Answer.the-variants.{Report}
+use Rattle.refusal.specs.declared.Answer.the-variants.{Written}
 use Rattle.schedule.specs.Schedule.{scheduleOf}
 use Rattle.book.specs.Records.{C, counterpartyAt}
 use Rattle.book.specs.Book.{bookOf, parentOf}
@@ -161,12 +161,12 @@ module _ {b heads : List ℕ} (H : Headed b heads) {groups : ℕ} (eg : groups �
 
         pub answered :
             Passed schedule b → fundCheck (bookOf b) ≡ Fine → Accepted b → Room groups sets₀ list₀ → length sets ≡ length sets₀ → {before after : List ℕ} → headSize + lineSize * n ≤ length before
-            → Reported (source (r .limits) cells sets heads) list n (r .figures) before after → Answered schedule b before after (Report (headSize + lineSize * n))
+            → Reported (source (r .limits) cells sets heads) list n (r .figures) before after → Answered schedule b before after (Written (headSize + lineSize * n))
         answered p f acc q size {before} {after} h w =
             let put : after ≡ report written ++ drop (length (report written)) before = w (C b) groups heads-are (table acc q size) in
             let a : after ≡ reportOf schedule b ++ drop (headSize + lineSize * n) before = put ∙ ap₂ (λ (x : List ℕ) (k : ℕ). x ++ drop k before) report-is (ap length report-is ∙ size-is) in
             record {
-              answer = ap Report (sym size-is) ∙ fine schedule b before p f (omega (arith, size-is));
+              answer = ap Written (sym size-is) ∙ fine schedule b before p f (omega (arith, size-is));
               bytes = a;
               cuts = rw a (report-cuts schedule b (drop (headSize + lineSize * n) before));
             }

@@ -10,7 +10,7 @@ use lib.ListN.{length, drop}
 use Rattle.words.specs.Words.{_≤?_}
 use Rattle.refusal.specs.declared.Checked.{Checked}
 use Rattle.refusal.specs.declared.Answer.{Answer}
-use Rattle.refusal.specs.declared.Answer.the-variants.{Report, Refused}
+use Rattle.refusal.specs.declared.Answer.the-variants.{Written, Refused}
 use Rattle.refusal.specs.declared.Refusal.the-variants.{BufferShort}
 use Rattle.refusal.specs.Chain.{refuse_unless_, _andThen_, answerBy}
 use Rattle.schedule.specs.Schedule.{scheduleOf}
@@ -43,14 +43,14 @@ checkOf schedule book buffer =
 unfoldable pub answerOf : List ℕ → List ℕ → ℕ → Answer
 answerOf schedule book buffer = answerBy (checkOf schedule book buffer) (length (reportOf schedule book))
 
--- what an answer leaves in the lent buffer: the report and then the buffer's own rest, or the buffer as it was
+-- what an answer leaves in the lent buffer: what was to be written and then the buffer's own rest, or the buffer as it was
 abbrev pub writtenBy : Answer → List ℕ → List ℕ → List ℕ
-writtenBy (Report length) report buffer = report ++ drop length buffer
-writtenBy (Refused why) report buffer = buffer
+writtenBy (Written length) bytes buffer = bytes ++ drop length buffer
+writtenBy (Refused why) bytes buffer = buffer
 
 -- demand 3 of the bytes R, where there is a report
 abbrev pub CutsOf : Answer → Fund → List ℕ → Type 0
-CutsOf (Report length) F R = LeastCuts F R
+CutsOf (Written length) F R = LeastCuts F R
 CutsOf (Refused why) F R = Unit {0}
 
 -- what the entry promises of its answer r and of the lent buffer, `before` it and `after`

@@ -69,7 +69,7 @@ fn answer(
                 return Answer::Refused(Refusal::BufferShort);
             }
             lines::put_report(report, limits, cells, sets, heads, list, n, figures);
-            Answer::Report(size)
+            Answer::Written(size)
         }
     }
 }

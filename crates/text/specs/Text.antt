@@ -12,7 +12,7 @@ use Prim.Native.String.{[] as String·[], _∷_ as _String·∷_}
 use lib.ListN.{length}
 use Rattle.words.specs.Words.{_<?_, if_then_else_}
 use Rattle.refusal.specs.declared.Answer.{Answer}
-use Rattle.refusal.specs.declared.Answer.the-variants.{Report, Refused}
+use Rattle.refusal.specs.declared.Answer.the-variants.{Written, Refused}
 use Rattle.refusal.specs.Refusals.{numberOf, placeOf}
 use Rattle.wire.specs.Bytes.{byteAt, u16At, u64At}
 
@@ -77,5 +77,5 @@ reportText r = linesText r (linesIn r) ++ chargeText (u64At r 64)
 
 -- what is printed of an answer, with r the buffer that was lent for the report
 abbrev pub answerText : Answer → List ℕ → List ℕ
-answerText (Report length) r = reportText r
+answerText (Written length) r = reportText r
 answerText (Refused why) r = refusedText (numberOf why) (placeOf why)

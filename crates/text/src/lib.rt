@@ -139,7 +139,7 @@ pub fn answer(out: &mut [u8], answer: Answer, report: &[u8]) -> usize
     ensures { λ r. ⌜ Counts r (now (out .exit)) ⌝ }
 {
     match answer {
-        Answer::Report(_) => put_report(out, report),
+        Answer::Written(_) => put_report(out, report),
         Answer::Refused(why) => put_refusal(out, refusal::number(why), refusal::place(why)),
     }
 }

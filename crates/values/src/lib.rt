@@ -1,20 +1,20 @@
-// A fund's VAF and VAF′ out of the sums over its assets, and refusals 14 and 15.
+// A fund's VAF and VAF′ out of the sums over its assets, and refusals 14 and 15: out of such sums, or of a book by itself.
 use assets::Values;
 use refusal::Checked;
 use refusal::Refusal;
 ghost use mathlib.Core.Path.{_≡_};
 ghost use Rattle.book.specs.Book.{bookOf};
 ghost use Rattle.book.specs.Accepted.{Accepted};
-ghost use Rattle.exposure.specs.Values.{VAF, beforeExcluded, VAF′, fundCheck};
+ghost use Rattle.exposure.specs.Values.{reinsuranceValues, stressedLessNetted, VAF, beforeExcluded, VAF′, fundCheck};
 ghost use Rattle.assets.specs.Assets.{FundSums};
 
-// VAF′ before excluded assets are taken off.
-fn before_excluded(b: &[u8], v: Values) -> u64
-    requires { ⌜ (Accepted (now b)) × (FundSums (now b) v) ⌝ }
+// VAF′ before excluded assets are taken off, out of two sums over reinsurance: its values, and what its stressed values have above what is netted.
+fn before_excluded(b: &[u8], values: u64, stressed: u64) -> u64
+    requires { ⌜ (Accepted (now b)) × (values ≡ reinsuranceValues (bookOf (now b))) × (stressed ≡ stressedLessNetted (bookOf (now b))) ⌝ }
     ensures { λ r. ⌜ r ≡ beforeExcluded (bookOf (now (b .entry))) ⌝ }
 {
     let h = book::header_at(b);
-    choice::less(h.total, v.reinsurance) + v.stressed
+    choice::less(h.total, values) + stressed
 }
 
 pub fn vaf(b: &[u8], v: Values) -> u64
@@ -30,16 +30,47 @@ pub fn stressed_vaf(b: &[u8], v: Values) -> u64
     ensures { λ r. ⌜ r ≡ VAF′ (bookOf (now (b .entry))) ⌝ }
 {
     let h = book::header_at(b);
-    choice::less(before_excluded(b, v), h.excluded)
+    choice::less(before_excluded(b, v.reinsurance, v.stressed), h.excluded)
 }
 
-// Refusals 14 and 15.
+// Refusals 14 and 15, out of the two sums.
+fn check_sums(b: &[u8], values: u64, stressed: u64) -> Checked
+    requires { ⌜ (Accepted (now b)) × (values ≡ reinsuranceValues (bookOf (now b))) × (stressed ≡ stressedLessNetted (bookOf (now b))) ⌝ }
+    ensures { λ r. ⌜ r ≡ fundCheck (bookOf (now (b .entry))) ⌝ }
+{
+    let h = book::header_at(b);
+    let before = before_excluded(b, values, stressed);
+    let within = (h.excluded <= before) & (choice::less(before, h.excluded) <= wire::M);
+    let held = refusal::unless(Refusal::ReinsuranceValues, values <= h.total);
+    refusal::and_then(held, refusal::unless(Refusal::StressedAssets, within))
+}
+
+// The same where a pass over the assets has taken the sums.
 pub fn check(b: &[u8], v: Values) -> Checked
     requires { ⌜ (Accepted (now b)) × (FundSums (now b) v) ⌝ }
     ensures { λ r. ⌜ r ≡ fundCheck (bookOf (now (b .entry))) ⌝ }
 {
+    check_sums(b, v.reinsurance, v.stressed)
+}
+
+// The same of a book by itself.
+pub fn check_book(b: &[u8]) -> Checked
+    requires { ⌜ Accepted (now b) ⌝ }
+    ensures { λ r. ⌜ r ≡ fundCheck (bookOf (now (b .entry))) ⌝ }
+{
     let h = book::header_at(b);
-    let within = (h.excluded <= before_excluded(b, v)) & (stressed_vaf(b, v) <= wire::M);
-    let held = refusal::unless(Refusal::ReinsuranceValues, v.reinsurance <= h.total);
-    refusal::and_then(held, refusal::unless(Refusal::StressedAssets, within))
+    let n = h.assets as usize;
+    let assets = book::assets_of(b);
+    let mut values = 0;
+    let mut stressed = 0;
+    let mut place = 1;
+    while place <= n {
+        let a = book::asset_at(b, assets, place);
+        let treaty = book::is_reinsurance(a);
+        let above = choice::less(exposure::stressed_of(a), a.offsets);
+        values += choice::amount(treaty, a.value, 0);
+        stressed += choice::amount(treaty, above, 0);
+        place += 1;
+    }
+    check_sums(b, values, stressed)
 }

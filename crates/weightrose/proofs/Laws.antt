@@ -11,19 +11,22 @@ use Rattle.refusal.specs.declared.Answer.{Answer}
 use Rattle.refusal.specs.declared.Checked.{Checked}
 use Rattle.refusal.specs.declared.Checked.the-variants.{Fine, Bad}
 use Rattle.refusal.specs.declared.Refusal.{Refusal}
-use Rattle.refusal.specs.declared.Refusal.the-variants.{ScheduleLength, ScheduleMark, ScheduleVersion, ScheduleRates, BookLength, BookMark, BookVersion, BookCounts, BookAmounts, Counterparty, Asset, Mitigant, MitigantCounts, ReinsuranceValues, StressedAssets, BufferShort, SpecialistEntry}
+use Rattle.refusal.specs.declared.Refusal.the-variants.{ScheduleLength, ScheduleMark, ScheduleVersion, ScheduleRates, BookLength, BookMark, BookVersion, BookCounts, BookAmounts, Counterparty, Asset, Mitigant, MitigantCounts, ReinsuranceValues, StressedAssets, BufferShort, SpecialistEntry, ManyMitigants}
 use Rattle.refusal.specs.Refusals.{numberOf}
 use Rattle.refusal.specs.Chain.{refuse_unless_, _andThen_, answerBy}
 use Rattle.refusal.specs.Laws.{then-first, then-rest}
 use Rattle.book.specs.Book.{bookOf}
 use Rattle.book.specs.Check.{bookCheck}
+use Rattle.book.specs.AcceptedLaws.{accepted}
+use Rattle.conversion.specs.Conversion.{converted, firstCheck, narrowCheck}
 use Rattle.exposure.specs.Values.{fundCheck}
 use Rattle.schedule.specs.Check.{scheduleCheck}
 use Rattle.schedule.specs.Schedule.{scheduleSize, published, scheduleBytes}
 use Rattle.schedule.specs.PublishedLaws.{published-length}
 use Rattle.report.specs.Answer.{reportOf, checkOf, answerOf, writtenBy, Answered}
+use Rattle.convert.specs.Convert.{bookConverts, convertAnswer, Converts}
 use Rattle.weightrose.specs.Most.{report-most}
-use Rattle.weightrose.specs.Exported.{packed, Apart, Reported, Published}
+use Rattle.weightrose.specs.Exported.{packed, Apart, Reported, Converted, Published}
 
 -- no refusal has the number 0
 numbered : (why : Refusal) → 1 ≤ numberOf why
@@ -44,6 +47,7 @@ numbered ReinsuranceValues = omega arith
 numbered StressedAssets = omega arith
 numbered BufferShort = omega arith
 numbered (SpecialistEntry p) = omega arith
+numbered (ManyMitigants p) = omega arith
 
 -- a report of a book that the checks let pass has at most 2,400 lines
 few : (schedule book : List ℕ) → bookCheck book ≡ Fine → length (reportOf schedule book) < 4294967296
@@ -67,6 +71,31 @@ reported schedule book before after a r w e =
       apart = rw (e ∙ ap packed (w .answer)) (apart schedule book (length before));
       bytes = w .bytes ∙ ap (λ (x : Answer). writtenBy x (reportOf schedule book) before) (w .answer);
       cuts = rw (w .answer) at (w .cuts);
+    }
+
+-- a book that the checks let pass has at most 63,240 bytes
+book-few : (book : List ℕ) → bookCheck book ≡ Fine → length book < 4294967296
+book-few book e = let a = accepted book e in omega (arith, a .size, a .counterparties, a .assets, a .mitigants)
+
+convert-apart : (book : List ℕ) (n : ℕ) → Apart (convertAnswer book n) (packed (convertAnswer book n))
+unfolding convertAnswer bookConverts
+convert-apart book n = by (bookConverts book andThen (refuse BufferShort unless length book ≤? n)) refl
+  where
+    by : (k : Checked) → (bookConverts book andThen (refuse BufferShort unless length book ≤? n)) ≡ k → Apart (answerBy k (length book)) (packed (answerBy k (length book)))
+    by Fine e =
+        let own = then-first (bookConverts book) (refuse BufferShort unless length book ≤? n) e in
+        book-few book
+        (then-first (bookCheck book) (fundCheck (bookOf book) andThen narrowCheck book)
+        (then-rest (firstCheck book) (bookCheck book andThen fundCheck (bookOf book) andThen narrowCheck book) own))
+    by (Bad why) e = omega (arith, numbered why)
+
+pub converts : (book before after : List ℕ) (a : Answer) (r : ℕ) → Converts book before after a → r ≡ packed a → Converted book before after r
+converts book before after a r w e =
+    record {
+      answer = e ∙ ap packed (w .answer);
+      apart = rw (e ∙ ap packed (w .answer)) (convert-apart book (length before));
+      bytes = w .bytes ∙ ap (λ (x : Answer). writtenBy x (converted book) before) (w .answer);
+      kept = rw (w .answer) at (w .kept);
     }
 
 pub too-short : (before : List ℕ) → length before < scheduleSize → Published before before 0

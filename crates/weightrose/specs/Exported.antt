@@ -1,7 +1,8 @@
 -- What the exported entries promise.
 --   packed      an answer as one number
---   Apart       the number tells a report from a refusal
+--   Apart       the number tells what was written from a refusal
 --   Reported    of weightrose_report
+--   Converted   of weightrose_convert
 --   Published   of weightrose_published
 use mathlib.Core.List.{List, _++_}
 use mathlib.Core.Path.{_≡_}
@@ -9,19 +10,21 @@ use Prim.Native.Nat.{ℕ, _+_, _*_, _≤_, _<_}
 use lib.ListN.{length, drop}
 use Rattle.words.specs.Words.{_≤?_, if_then_else_}
 use Rattle.refusal.specs.declared.Answer.{Answer}
-use Rattle.refusal.specs.declared.Answer.the-variants.{Report, Refused}
+use Rattle.refusal.specs.declared.Answer.the-variants.{Written, Refused}
 use Rattle.refusal.specs.Refusals.{numberOf, placeOf}
 use Rattle.schedule.specs.Schedule.{scheduleSize, published, scheduleBytes}
+use Rattle.conversion.specs.Conversion.{converted}
+use Rattle.convert.specs.Convert.{convertAnswer, KeptBy}
 use Rattle.report.specs.Answer.{fundIn, reportOf, answerOf, writtenBy, CutsOf}
 
--- "A refusal is a number and a place": the number in the high 32 bits, the place in the low ones; for a report its length
+-- "A refusal is a number and a place": the number in the high 32 bits, the place in the low ones; else the length written
 abbrev pub packed : Answer → ℕ
-packed (Report length) = length
+packed (Written length) = length
 packed (Refused why) = numberOf why * 4294967296 + placeOf why
 
--- the number tells the two apart: below 2^32 it is a report's length, from there on a refusal
+-- the number tells the two apart: below 2^32 it is a length, from there on a refusal
 abbrev pub Apart : Answer → ℕ → Type 0
-Apart (Report length) r = r < 4294967296
+Apart (Written length) r = r < 4294967296
 Apart (Refused why) r = 4294967296 ≤ r
 
 -- the number r, and the lent bytes `before` and `after`: demands 1 and 2 by the first two parts, demand 3 by the last
@@ -30,6 +33,13 @@ pub record Reported (schedule book before after : List ℕ) (r : ℕ) : Type 0 w
   pub apart : Apart (answerOf schedule book (length before)) r
   pub bytes : after ≡ writtenBy (answerOf schedule book (length before)) (reportOf schedule book) before
   pub cuts : CutsOf (answerOf schedule book (length before)) (fundIn schedule book) after
+
+-- C-13: the number r, and the lent bytes `before` and `after`; "nothing is lost" by the last part
+pub record Converted (book before after : List ℕ) (r : ℕ) : Type 0 where
+  pub answer : r ≡ packed (convertAnswer book (length before))
+  pub apart : Apart (convertAnswer book (length before)) r
+  pub bytes : after ≡ writtenBy (convertAnswer book (length before)) (converted book) before
+  pub kept : KeptBy (convertAnswer book (length before)) book after
 
 -- "The published schedule (A1 to A3) is a constant of the product": its bytes where they fit
 pub record Published (before after : List ℕ) (r : ℕ) : Type 0 where

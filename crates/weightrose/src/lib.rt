@@ -3,14 +3,14 @@ use refusal::Answer;
 ghost use mathlib.Core.Path.{_≡_};
 ghost use Prim.Native.Nat.{_+_, _*_, _<_};
 ghost use lib.ListN.{length};
-ghost use Rattle.weightrose.specs.Exported.{packed, Reported, Published};
+ghost use Rattle.weightrose.specs.Exported.{packed, Reported, Converted, Published};
 
-// An answer as one number: a refusal's number above its place, or the report's length.
+// An answer as one number: a refusal's number above its place, or the length written.
 fn pack(answer: Answer) -> u64
     ensures { λ r. ⌜ r ≡ packed answer ⌝ }
 {
     match answer {
-        Answer::Report(length) => length as u64,
+        Answer::Written(length) => length as u64,
         Answer::Refused(why) => refusal::number(why) * 4294967296 + refusal::place(why),
     }
 }
@@ -21,6 +21,14 @@ pub extern "C" fn weightrose_report(schedule: &[u8], book: &[u8], report: &mut [
     ensures { λ r. ⌜ Reported (now (schedule .entry)) (now (book .entry)) (now (report .entry)) (now (report .exit)) r ⌝ }
 {
     pack(report::report(schedule, book, report))
+}
+
+// A book of version 1 as one of version 2, into the lent bytes.
+#[no_mangle]
+pub extern "C" fn weightrose_convert(book: &[u8], converted: &mut [u8]) -> u64
+    ensures { λ r. ⌜ Converted (now (book .entry)) (now (converted .entry)) (now (converted .exit)) r ⌝ }
+{
+    pack(convert::convert(book, converted))
 }
 
 // The published schedule's bytes, into the lent bytes, and how many they are; 0 and no byte changed where fewer are lent.

@@ -1,9 +1,10 @@
 // Little-endian numbers in byte slices: read at a place, written at a place; and the most that an amount may be.
 ghost use mathlib.Core.Path.{_≡_};
-ghost use mathlib.Core.List.{_∷_, []};
-ghost use Prim.Native.Nat.{_+_, _≤_, _<_};
-ghost use lib.ListN.{length};
-ghost use Rattle.wire.specs.Bytes.{u16At, u64At, i64At, sum16, sum64, signedOf, bytes16, bytes64, placed};
+ghost use mathlib.Core.List.{_∷_, [], _++_};
+ghost use Prim.Native.Nat.{_+_, _%_, _≤_, _<_};
+ghost use lib.ListN.{length, drop};
+ghost use Rattle.words.specs.Words.{_=?_, if_then_else_};
+ghost use Rattle.wire.specs.Bytes.{byteAt, u16At, u64At, i64At, sum16, sum64, signedOf, bytes16, bytes64, placed};
 
 // "Amounts are whole cents, each one read at most M".
 pub const M: u64 = 10_000_000_000_000;
@@ -22,7 +23,7 @@ fn wide64(x: u8) -> u64
 
 fn sum16_at(s: &[u8], at: usize) -> u16
     requires { ⌜ at + 2 ≤ length (now s) ⌝ }
-    ensures { λ r. ⌜ r ≡ sum16 (now (s .entry)) at ⌝ }
+    ensures { λ r. ⌜ (r ≡ sum16 (now (s .entry)) at) × (r % 256 ≡ byteAt (now (s .entry)) at) ⌝ }
 {
     wide16(s[at]) + wide16(s[at + 1]) * 256
 }
@@ -48,6 +49,14 @@ pub fn u16_at(s: &[u8], at: usize) -> u16
     ensures { λ r. ⌜ r ≡ u16At (now (s .entry)) at ⌝ }
 {
     sum16_at(s, at)
+}
+
+// What a mask leaves of the u16 at a place: its first byte alone, or all of it.
+pub fn masked_at(s: &[u8], at: usize, mask: u16) -> u16
+    requires { ⌜ (at + 2 ≤ length (now s)) × (mask ≡ (if mask =? 255 then 255 else 65535)) ⌝ }
+    ensures { λ r. ⌜ r ≡ (if mask =? 255 then byteAt (now (s .entry)) at else u16At (now (s .entry)) at) ⌝ }
+{
+    sum16_at(s, at) & mask
 }
 
 // The u64 at a place.
@@ -76,6 +85,18 @@ pub fn i64_at(s: &[u8], at: usize) -> i64
     ensures { λ r. ⌜ r ≡ i64At (now (s .entry)) at ⌝ }
 {
     signed(u64_at(s, at))
+}
+
+// All bytes of s, put from the start on; every byte behind them stays.
+pub fn put_all(d: &mut [u8], s: &[u8])
+    requires { ⌜ length (now s) ≤ length (now d) ⌝ }
+    ensures { λ _. ⌜ now (d .exit) ≡ now (s .entry) ++ drop (length (now (s .entry))) (now (d .entry)) ⌝ }
+{
+    let mut i = 0;
+    while i < s.len() {
+        d[i] = s[i];
+        i += 1;
+    }
 }
 
 // A byte put at a place; every other byte stays.

@@ -1,5 +1,6 @@
 //! Times the library beside the second implementation and, where the build was given one, a
-//! yardstick, on four books, and how the library's time grows with the book.
+//! yardstick, on four books; then the library alone: on the same books as version 2, its converter,
+//! and how its time grows with the book.
 //!
 //! Rounds of about a millisecond are taken in turn (the slow second implementation in every tenth
 //! alone), and each subject's best round counts. A call is a whole one: checks, report and all.
@@ -10,7 +11,9 @@ use std::hint::black_box;
 use std::time::{Duration, Instant};
 use weightrose_tests::inputs::{lifelike, Parents, Shape};
 use weightrose_tests::random::Random;
-use weightrose_tests::weightrose::{packed_report, published, Answer, LARGEST_REPORT};
+use weightrose_tests::weightrose::{
+    packed_convert, packed_report, published, Answer, LARGEST_REPORT,
+};
 #[cfg(yardstick)]
 use weightrose_tests::yardstick;
 use weightrose_tests::{second, weightrose};
@@ -76,7 +79,7 @@ fn check(name: &str, subjects: &[Subject], books: &[Vec<u8>]) {
             ((subject.report)(&schedule, book, &mut buffer), buffer)
         };
         let first = run(&subjects[0]);
-        assert!(matches!(Answer::unpacked(first.0), Some(Answer::Report(_))), "{name}: refused");
+        assert!(matches!(Answer::unpacked(first.0), Some(Answer::Written(_))), "{name}: refused");
         assert!(subjects.iter().all(|subject| run(subject) == first), "{name}: the reports differ");
     }
 }
@@ -131,6 +134,56 @@ fn compare_subjects(subjects: &[Subject]) {
     }
 }
 
+/// Whether each asset of a book has no more than 255 mitigants is the shapes' to say: all do.
+fn as_version_2(book: &[u8]) -> Vec<u8> {
+    let mut new = vec![0; book.len()];
+    assert_eq!(packed_convert(book, &mut new), book.len() as u64);
+    new
+}
+
+/// The report of books of both versions, and the converter, as multiples of the report's time.
+fn versions_and_converter() {
+    let convert: Report = |_, book, buffer| packed_convert(book, buffer);
+    println!("\nThe library on both versions of the same books, and its converter:\n");
+    let head = [
+        "book",
+        "report, version 1, µs",
+        "version 2 / version 1",
+        "converter, µs",
+        "converter / report",
+    ];
+    print_row(&head.map(str::to_string));
+    print_row(&head.map(|_| "---".to_string()));
+    for Case { name, shape } in cases() {
+        let old = books(&shape);
+        let new: Vec<Vec<u8>> = old.iter().map(|book| as_version_2(book)).collect();
+        let [first, second, converter] =
+            best_of([(packed_report, &old), (packed_report, &new), (convert, &old)]);
+        print_row(&[
+            name.to_string(),
+            format!("{:.2}", first / 1_000.0),
+            format!("{:.3}", second / first),
+            format!("{:.2}", converter / 1_000.0),
+            format!("{:.3}", converter / first),
+        ]);
+    }
+}
+
+/// Nanoseconds of a call of each function on its books: the best of interleaved rounds.
+fn best_of<const N: usize>(calls: [(Report, &Vec<Vec<u8>>); N]) -> [f64; N] {
+    let mut buffer = vec![0; LARGEST_REPORT];
+    let mut best = calls.map(|(call, books)| time(call, books, &mut buffer, 2));
+    let turns = best.map(|call| 1 + (ROUND.as_nanos() as f64 / (call * BOOKS as f64)) as u32);
+    for round in 0..ROUNDS {
+        for place in 0..N {
+            let number = (round + place) % N;
+            let (call, books) = calls[number];
+            best[number] = best[number].min(time(call, books, &mut buffer, turns[number]));
+        }
+    }
+    best
+}
+
 /// From an eighth of the maximal book to the whole: 8 is growth in step with the book.
 fn growth(library: &[Subject]) {
     println!("\nThe library from an eighth of the maximal book to the whole:");
@@ -155,5 +208,6 @@ fn main() {
     println!("{} bytes, not cleared between calls.\n", weightrose::LARGEST_REPORT);
     let subjects = subjects();
     compare_subjects(&subjects);
+    versions_and_converter();
     growth(&subjects[..1]);
 }

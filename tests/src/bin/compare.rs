@@ -1,18 +1,28 @@
-//! Compares the library with the second implementation and prints what it met.
+//! Compares the library with the second implementation and prints what it met: the reports, and the
+//! converters, whose books must get the same report before and behind.
 //!
-//!     compare [--inputs N] [--seed S]            N inputs (55,000 unless said) under the seed S
+//!     compare [--inputs N] [--seed S]            N inputs (60,000 unless said) under the seed S, and
+//!                                                a fifth as many of the converter
 //!     compare --only I [--seed S] [--dump FILE]  input I alone; FILE gets its schedule and book
-//!     compare --against yardstick ..             with the static library that the build was given
+//!     compare --conversion I [--seed S] ..       the same of the converter's inputs
+//!     compare --against yardstick ..             with the static library that the build was given,
+//!                                                reports alone
+//!     compare --without-version V ..             leaving out books whose byte 4 is V
 //!
 //! Ends with status 1 on the first difference, or where a refusal or a tier was not met at all.
 
 use std::process::ExitCode;
 use std::time::Instant;
-use weightrose_tests::compare::{compare, library, second, Lent, Outcome, GUARD};
-use weightrose_tests::inputs::{Input, Inputs};
+use weightrose_tests::compare::{
+    compare, keeps, library, library_convert, second, second_convert, Lent, Outcome, Subject, GUARD,
+};
+use weightrose_tests::inputs::{Conversions, Input, Inputs};
 use weightrose_tests::weightrose::{Answer, HEADER, LINE};
 
-const REFUSALS: usize = 17;
+const REFUSALS: usize = 18;
+/// The refusals that a report has, and those that a conversion has.
+const OF_REPORT: std::ops::RangeInclusive<usize> = 1..=17;
+const OF_CONVERSION: std::ops::RangeInclusive<usize> = 5..=18;
 const TIERS: usize = 16;
 const TIER_NAMES: [&str; TIERS] = [
     "i",
@@ -37,6 +47,8 @@ struct Options {
     inputs: usize,
     seed: u64,
     only: Option<usize>,
+    conversion: Option<usize>,
+    without_version: Option<u8>,
     dump: Option<String>,
     against: Other,
 }
@@ -64,8 +76,15 @@ fn other(name: &str) -> Result<Other, String> {
 }
 
 fn options() -> Result<Options, String> {
-    let mut options =
-        Options { inputs: 55_000, seed: 20_230_701, only: None, dump: None, against: SECOND };
+    let mut options = Options {
+        inputs: 60_000,
+        seed: 20_230_701,
+        only: None,
+        conversion: None,
+        without_version: None,
+        dump: None,
+        against: SECOND,
+    };
     let mut words = std::env::args().skip(1);
     while let Some(word) = words.next() {
         let value = words.next().ok_or(format!("{word} needs a value"))?;
@@ -74,6 +93,8 @@ fn options() -> Result<Options, String> {
             "--inputs" => options.inputs = number()? as usize,
             "--seed" => options.seed = number()?,
             "--only" => options.only = Some(number()? as usize),
+            "--conversion" => options.conversion = Some(number()? as usize),
+            "--without-version" => options.without_version = Some(number()? as u8),
             "--dump" => options.dump = Some(value),
             "--against" => options.against = other(&value)?,
             _ => return Err(format!("unknown option {word}")),
@@ -86,7 +107,8 @@ fn options() -> Result<Options, String> {
 #[derive(Default)]
 struct Met {
     specialist_funds: u64,
-    reports: u64,
+    version_2: u64,
+    written: u64,
     refusals: [u64; REFUSALS],
     lines: [u64; TIERS],
 }
@@ -94,73 +116,150 @@ struct Met {
 impl Met {
     fn count(&mut self, input: &Input, outcome: &Outcome) {
         self.specialist_funds += u64::from(input.book.get(12) == Some(&1));
+        self.version_2 += u64::from(input.book.get(4) == Some(&2));
         match Answer::unpacked(outcome.answer) {
             Some(Answer::Refused(refusal)) => self.refusals[refusal.number() as usize - 1] += 1,
-            Some(Answer::Report(length)) => {
-                self.reports += 1;
-                let lines = &outcome.area[GUARD + HEADER..GUARD + length];
-                lines.chunks(LINE).for_each(|line| self.lines[usize::from(line[2])] += 1);
-            }
+            Some(Answer::Written(_)) => self.written += 1,
             None => unreachable!("both answered {:#x}", outcome.answer),
         }
     }
 
-    fn print(&self) {
-        println!("books of specialist funds {}", self.specialist_funds);
-        println!("reports {}", self.reports);
-        for (number, count) in (1..).zip(self.refusals) {
-            println!("refusal {number:2} {count:9}");
+    /// The lines of a report.
+    fn count_lines(&mut self, outcome: &Outcome) {
+        if let Some(Answer::Written(length)) = Answer::unpacked(outcome.answer) {
+            let lines = &outcome.area[GUARD + HEADER..GUARD + length];
+            lines.chunks(LINE).for_each(|line| self.lines[usize::from(line[2])] += 1);
         }
+    }
+
+    fn print(&self, written: &str, refusals: std::ops::RangeInclusive<usize>) {
+        println!(
+            "books of specialist funds {}, of version 2 {}",
+            self.specialist_funds, self.version_2
+        );
+        println!("{written} {}", self.written);
+        for number in refusals {
+            println!("refusal {number:2} {:9}", self.refusals[number - 1]);
+        }
+    }
+
+    fn print_lines(&self) {
         for ((number, name), count) in (0..).zip(TIER_NAMES).zip(self.lines) {
             println!("tier {number:2} {count:12} lines  {name}");
         }
     }
 
-    fn all_met(&self) -> bool {
-        self.reports > 0 && self.refusals.iter().chain(&self.lines).all(|&count| count > 0)
+    fn refusals_met(&self, mut refusals: std::ops::RangeInclusive<usize>) -> bool {
+        self.written > 0 && refusals.all(|number| self.refusals[number - 1] > 0)
+    }
+
+    fn lines_met(&self) -> bool {
+        self.lines.iter().all(|&count| count > 0)
     }
 }
 
-fn run(inputs: &Inputs, options: &Options) -> Result<Met, String> {
-    let mut met = Met::default();
-    let other = options.against.subject;
-    let numbers = match options.only {
+/// Both subjects on one input, which is named where they differ.
+fn compare_one(
+    options: &Options,
+    option: &str,
+    number: usize,
+    input: &Input,
+    subjects: [Subject; 2],
+) -> Result<Outcome, String> {
+    if let Some(file) = &options.dump {
+        let bytes = [&input.schedule[..], &input.book[..]].concat();
+        std::fs::write(file, bytes).map_err(|error| format!("{file}: {error}"))?;
+    }
+    let [one, other] = subjects;
+    compare(one, other, input)
+        .map_err(|difference| named(options, option, number, input, &difference))
+}
+
+fn named(
+    options: &Options,
+    option: &str,
+    number: usize,
+    input: &Input,
+    what: &dyn std::fmt::Display,
+) -> String {
+    format!("input {number} ({}, --seed {} {option} {number}): {what}", input.name, options.seed)
+}
+
+/// The numbers to go through: one that was asked for, or so many.
+fn numbers(only: Option<usize>, count: usize) -> std::ops::Range<usize> {
+    match only {
         Some(number) => number..number + 1,
-        None => 0..options.inputs,
-    };
-    for number in numbers {
+        None => 0..count,
+    }
+}
+
+fn reports(options: &Options) -> Result<(), String> {
+    let start = Instant::now();
+    let inputs = Inputs::new(options.seed);
+    let other = options.against.subject;
+    let mut met = Met::default();
+    let mut compared = 0;
+    for number in numbers(options.only, options.inputs) {
         let input = inputs.get(number);
-        if let Some(file) = &options.dump {
-            let bytes = [&input.schedule[..], &input.book[..]].concat();
-            std::fs::write(file, bytes).map_err(|error| format!("{file}: {error}"))?;
+        if options.without_version.is_some_and(|version| input.book.get(4) == Some(&version)) {
+            continue;
         }
-        let outcome = compare(&library, &other, &input).map_err(|difference| {
-            let seed = options.seed;
-            format!("input {number} ({}, --seed {seed} --only {number}): {difference}", input.name)
-        })?;
+        let outcome = compare_one(options, "--only", number, &input, [&library, &other])?;
+        met.count(&input, &outcome);
+        met.count_lines(&outcome);
+        compared += 1;
+    }
+    met.print("reports", OF_REPORT);
+    met.print_lines();
+    if options.only.is_none() && !(met.refusals_met(OF_REPORT) && met.lines_met()) {
+        return Err("a refusal or a tier was not met".to_string());
+    }
+    let (fixed, seconds) = (inputs.fixed(), start.elapsed().as_secs_f64());
+    println!(
+        "compared on {compared} inputs, the first {fixed} fixed: no difference, {seconds:.1} s"
+    );
+    Ok(())
+}
+
+fn conversions(options: &Options) -> Result<(), String> {
+    let start = Instant::now();
+    let inputs = Conversions::new(options.seed);
+    let mut met = Met::default();
+    let count = options.inputs / 5;
+    for number in numbers(options.conversion, count) {
+        let input = inputs.get(number);
+        let subjects: [Subject; 2] = [&library_convert, &second_convert];
+        let outcome = compare_one(options, "--conversion", number, &input, subjects)?;
+        if let Some(Answer::Written(length)) = Answer::unpacked(outcome.answer) {
+            keeps(&input, &outcome.area[GUARD..GUARD + length])
+                .map_err(|what| named(options, "--conversion", number, &input, &what))?;
+        }
         met.count(&input, &outcome);
     }
-    Ok(met)
+    met.print("converted", OF_CONVERSION);
+    if options.conversion.is_none() && !met.refusals_met(OF_CONVERSION) {
+        return Err("a refusal of the converter was not met".to_string());
+    }
+    let (fixed, seconds) = (inputs.fixed(), start.elapsed().as_secs_f64());
+    println!(
+        "converters compared on {count} inputs, the first {fixed} fixed: no difference, {seconds:.1} s"
+    );
+    Ok(())
+}
+
+fn run(options: &Options) -> Result<(), String> {
+    println!("library and {}, seed {}", options.against.name, options.seed);
+    if options.conversion.is_none() {
+        reports(options)?;
+    }
+    if options.only.is_none() && options.against.name == SECOND.name {
+        conversions(options)?;
+    }
+    Ok(())
 }
 
 fn main() -> ExitCode {
-    let outcome = options().and_then(|options| {
-        let start = Instant::now();
-        let inputs = Inputs::new(options.seed);
-        println!("library and {}, seed {}", options.against.name, options.seed);
-        let met = run(&inputs, &options)?;
-        met.print();
-        let (count, seconds) = (options.inputs, start.elapsed().as_secs_f64());
-        if options.only.is_none() && !met.all_met() {
-            return Err("a refusal or a tier was not met".to_string());
-        }
-        let fixed = inputs.fixed();
-        println!(
-            "compared on {count} inputs, {fixed} of them fixed: no difference, {seconds:.1} s"
-        );
-        Ok(())
-    });
-    match outcome {
+    match options().and_then(|options| run(&options)) {
         Ok(()) => ExitCode::SUCCESS,
         Err(message) => {
             eprintln!("compare: {message}");

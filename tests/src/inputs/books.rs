@@ -39,7 +39,9 @@ fn random_shape(random: &mut Random) -> Shape {
     let (counterparties, assets, mitigants) = match random.below(1_000) {
         0..=19 => (random.below(3), 0, 0),
         20..=849 => (random.between(1, 8), random.between(1, 24), random.below(24)),
-        850..=994 => (random.between(1, 60), random.between(1, 80), random.below(90)),
+        850..=979 => (random.between(1, 60), random.between(1, 80), random.below(90)),
+        // Few assets with many mitigants, on both sides of what one byte counts.
+        980..=994 => (random.between(1, 4), random.between(1, 3), random.between(200, 900)),
         995..=997 => (random.between(1, 500), random.between(1, 900), random.below(1_501)),
         _ => (500, 900, 1_500),
     };

@@ -38,7 +38,7 @@ fn spoil_header(random: &mut Random, book: &mut RawBook) {
     let most = MOST as i64;
     match random.below(8) {
         0 => book.mark[random.index(4)] ^= 1 << random.below(8),
-        1 => book.version = random.below(3) as u16,
+        1 => book.version = random.pick(&[0, 1, 2, 3, 0x0100, 0x0101, 0x0102, 0x0201]),
         2 => book.zeros[random.index(3)] = random.below(3) as u8,
         3 => book.specialist = random.pick(&[0, 1, 2, 255]),
         4 => book.total = bad_amount(random),

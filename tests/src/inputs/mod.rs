@@ -1,17 +1,21 @@
 //! What library and second implementation are compared on: first every boundary, the largest books,
-//! every combination of a list and the limits of specialist funds (`edges`, `extremes`,
-//! `combinations`, `specialist`), then seeded books of any fund (`books`) and, every fifth, of a
-//! specialist one (`specialist`), some of them with faults or damage (`faults`). An input's number
-//! and the seed make it again.
+//! every combination of a list, the limits of specialist funds and the versions of a book (`edges`,
+//! `extremes`, `combinations`, `specialist`, `versions`), then seeded books of any fund (`books`)
+//! and, every fifth, of a specialist one (`specialist`), some of them with faults or damage
+//! (`faults`). The converter has a list of its own (`conversions`). An input's number and the seed
+//! make it again.
 
 mod books;
 mod combinations;
+mod conversions;
 mod edges;
 mod extremes;
 mod faults;
 mod specialist;
+mod versions;
 
 pub use books::{lifelike, Parents, Shape};
+pub use conversions::Conversions;
 pub use edges::sample;
 pub use extremes::{largest_report_book, largest_specialist_book, sixteen_tiers};
 
@@ -53,6 +57,7 @@ impl Inputs {
         fixed.extend(extremes::all());
         fixed.extend(combinations::all());
         fixed.extend(specialist::all());
+        fixed.extend(versions::all());
         Inputs { seed, fixed }
     }
 
@@ -71,15 +76,23 @@ impl Inputs {
 
 fn seeded(random: &mut Random, specialist: bool) -> Input {
     let family = if specialist { specialist::random } else { books::random };
-    let (schedule, book) = family(random);
-    let mut input = match random.below(100) {
+    let (schedule, mut book) = family(random);
+    if random.chance(40) {
+        versions::at_desks(random, &mut book);
+    }
+    let mut input = made(random, schedule, book);
+    input.room = random_room(random);
+    input
+}
+
+/// As it is, or with faults or damage.
+fn made(random: &mut Random, schedule: RawSchedule, book: RawBook) -> Input {
+    match random.below(100) {
         0..=59 => Input::new("valid", &schedule, &book),
         60..=79 => faults::spoiled(random, schedule, book),
         80..=94 => faults::damaged_book(random, &schedule, &book),
         _ => faults::damaged_schedule(random, &schedule, &book),
-    };
-    input.room = random_room(random);
-    input
+    }
 }
 
 fn random_room(random: &mut Random) -> Room {

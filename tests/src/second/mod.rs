@@ -1,13 +1,14 @@
-//! A second implementation of document 01, with document 02's request C-11, written from the
-//! documents and from nothing else.
+//! A second implementation of document 01, with document 02's requests C-11 and C-13, written from
+//! the documents and from nothing else.
 //!
 //! It reads bytes into records (`read`), takes values, exposures, tiers and limits from them
 //! (`fund`), sums them by group and cuts what passes a limit (`cascade`), and writes the report
-//! (`write`). Amounts are `i128` and limits exact fractions (`fraction`), so that no bound on them
+//! (`write`); a book is converted record by record (`convert`). Amounts are `i128` and limits exact fractions (`fraction`), so that no bound on them
 //! has to be known. Each sentence that could be got wrong by itself is a method of `rules`; `slip`
 //! has the wrong variants that a comparison must catch.
 
 mod cascade;
+mod convert;
 mod fraction;
 mod fund;
 mod read;
@@ -16,6 +17,7 @@ mod rules;
 mod slip;
 mod write;
 
+pub use convert::{convert, convert_by, rebuilt};
 pub use rules::{Documents, Rules};
 pub use slip::Slip;
 
@@ -37,7 +39,7 @@ pub fn report_by<R: Rules>(rules: &R, schedule: &[u8], book: &[u8], buffer: &mut
         }
         Ok(bytes) => {
             buffer[..bytes.len()].copy_from_slice(&bytes);
-            Answer::Report(bytes.len())
+            Answer::Written(bytes.len())
         }
     }
 }
@@ -49,7 +51,7 @@ pub fn length(schedule: &[u8], book: &[u8]) -> Option<usize> {
 
 fn bytes_by<R: Rules>(rules: &R, schedule: &[u8], book: &[u8]) -> Result<Vec<u8>, Refusal> {
     let schedule = read::schedule(schedule)?;
-    let book = read::book(rules, book)?;
+    let book = read::book(rules, |version| rules.version_passes(version), book)?;
     let values = fund::values(rules, &book);
     if let Some(refusal) = fund::refusal(rules, &book, &values) {
         return Err(refusal);

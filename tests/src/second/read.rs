@@ -1,4 +1,5 @@
-//! Bytes to records: the layout of schedule and book, and refusals 1 to 12.
+//! Bytes to records: the layout of schedule and book, and refusals 1 to 12. Which versions of a book
+//! pass is the entry's.
 
 use super::records::*;
 use super::rules::Rules;
@@ -107,6 +108,7 @@ fn schedule_rates_accepted(schedule: &Schedule) -> bool {
 }
 
 struct Header {
+    version: u16,
     specialist: bool,
     counterparties: usize,
     assets: usize,
@@ -116,9 +118,13 @@ struct Header {
     excluded: i128,
 }
 
-/// The book, refusals 5 to 12.
-pub fn book<R: Rules>(rules: &R, bytes: &[u8]) -> Result<Book, Refusal> {
-    let header = header(rules, bytes)?;
+/// The book, refusals 5 to 12, where such versions pass.
+pub fn book<R: Rules>(
+    rules: &R,
+    passes: impl Fn(u16) -> bool,
+    bytes: &[u8],
+) -> Result<Book, Refusal> {
+    let header = header(rules, passes, bytes)?;
     let most_place = header.counterparties as Place;
     let mut bytes = Bytes(&bytes[40..]);
 
@@ -126,8 +132,9 @@ pub fn book<R: Rules>(rules: &R, bytes: &[u8]) -> Result<Book, Refusal> {
         records(bytes.take(4 * header.counterparties), 4, |bytes, place| {
             Some((place, counterparty(bytes, place)?))
         });
-    let assets: Result<Vec<_>, _> =
-        records(bytes.take(48 * header.assets), 48, |bytes, _| asset(rules, bytes, most_place));
+    let assets: Result<Vec<_>, _> = records(bytes.take(48 * header.assets), 48, |bytes, _| {
+        asset(rules, header.version, bytes, most_place)
+    });
     let mitigants: Result<Vec<_>, _> =
         records(bytes.take(12 * header.mitigants), 12, |bytes, _| mitigant(bytes, most_place));
 
@@ -151,7 +158,11 @@ pub fn book<R: Rules>(rules: &R, bytes: &[u8]) -> Result<Book, Refusal> {
 }
 
 /// The header's 40 bytes, refusals 5 to 9.
-fn header<R: Rules>(rules: &R, book: &[u8]) -> Result<Header, Refusal> {
+fn header<R: Rules>(
+    rules: &R,
+    passes: impl Fn(u16) -> bool,
+    book: &[u8],
+) -> Result<Header, Refusal> {
     accept(book.len() >= 40, Refusal::BookLength)?;
     let mut bytes = Bytes(book);
     let mark = bytes.take(4);
@@ -160,6 +171,7 @@ fn header<R: Rules>(rules: &R, book: &[u8]) -> Result<Header, Refusal> {
     let specialist = rules.specialist(bytes.u8());
     let zeros = bytes.take(3);
     let header = Header {
+        version,
         specialist: specialist == Some(true),
         counterparties,
         assets,
@@ -170,7 +182,7 @@ fn header<R: Rules>(rules: &R, book: &[u8]) -> Result<Header, Refusal> {
     };
     let first_bytes = mark == b"ACB\0" && specialist.is_some() && zeros == [0; 3];
     accept(first_bytes, Refusal::BookMark)?;
-    accept(version == 1, Refusal::BookVersion)?;
+    accept(passes(version), Refusal::BookVersion)?;
     accept(counts_accepted(&header, book.len()), Refusal::BookCounts)?;
     accept(amounts_accepted(&header), Refusal::BookAmounts)?;
     Ok(header)
@@ -228,7 +240,7 @@ fn counterparty(mut bytes: Bytes, place: Place) -> Option<Counterparty> {
 }
 
 /// An asset, still without its mitigants. "asset field, unknown bit, amount over M" (11): none.
-fn asset<R: Rules>(rules: &R, mut bytes: Bytes, most_place: Place) -> Option<Asset> {
+fn asset<R: Rules>(rules: &R, version: u16, mut bytes: Bytes, most_place: Place) -> Option<Asset> {
     let kind = asset_kind(bytes.u8())?;
     let [linked, rises_under_stress] = bytes.flags()?;
     let entry = match bytes.u8() {
@@ -240,7 +252,7 @@ fn asset<R: Rules>(rules: &R, mut bytes: Bytes, most_place: Place) -> Option<Ass
     };
     let months = bytes.u8();
     let counterparty = known_place(bytes.u16(), most_place)?;
-    let count = bytes.u16();
+    let count = rules.count(version, bytes.array());
     let asset = Asset {
         kind,
         linked,

@@ -25,6 +25,20 @@ pub trait Rules {
         }
     }
 
+    /// C-13: "Refusal 7 now passes versions 1 and 2."
+    fn version_passes(&self, version: u16) -> bool {
+        matches!(version, 1 | 2)
+    }
+
+    /// C-13: "Book version 2 narrows the count of mitigants from two bytes to byte 6, and byte 7
+    /// holds the desk": the count in an asset's bytes 6 and 7.
+    fn count(&self, version: u16, bytes: [u8; 2]) -> u16 {
+        match version {
+            2 => u16::from(bytes[0]),
+            _ => u16::from_le_bytes(bytes),
+        }
+    }
+
     /// "Checked by rising number": the first bad counterparty, asset and mitigant, if any.
     fn first_bad_record(&self, bad_records: [Option<Refusal>; 3]) -> Option<Refusal> {
         bad_records.into_iter().flatten().next()
@@ -72,6 +86,40 @@ pub trait Rules {
     /// "buffer shorter than report" (16).
     fn buffer_accepted(&self, buffer: usize, report: usize) -> bool {
         buffer >= report
+    }
+
+    // The converter (C-13).
+
+    /// "The converter takes only version 1, any other is its refusal 7".
+    fn converter_takes(&self, version: u16) -> bool {
+        version == 1
+    }
+
+    /// "It gives 18 when an asset has more than 255 mitigants, with its place", the first such
+    /// asset's.
+    fn too_many_mitigants(&self, book: &Book) -> Option<Place> {
+        (1..).zip(&book.assets).find(|(_, asset)| asset.count > 255).map(|(place, _)| place)
+    }
+
+    /// "between 15 and 16": what 13, 17, 14 and 15 find of the book, then 18, then 16.
+    fn first_of_converter(&self, found: [Option<Refusal>; 3]) -> Option<Refusal> {
+        found.into_iter().flatten().next()
+    }
+
+    /// "16 compares the output with the book's length".
+    fn output_accepted(&self, output: usize, book: usize) -> bool {
+        output >= book
+    }
+
+    /// "turns version 1 into 2".
+    fn converted_version(&self) -> u16 {
+        2
+    }
+
+    /// "narrows the count of mitigants from two bytes to byte 6, and byte 7 holds the desk", "with
+    /// desk 0": bytes 6 and 7 of an asset with so many.
+    fn narrowed(&self, count: u16) -> [u8; 2] {
+        [count as u8, 0]
     }
 
     // Values (P16 to P20, P26, P27).

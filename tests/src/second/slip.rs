@@ -14,6 +14,11 @@ macro_rules! slips {
 
         impl Slip {
             pub const ALL: &'static [Slip] = &[$(Slip::$name,)*];
+
+            /// Whether it is of the converter, and not of the report.
+            pub fn of_converter(self) -> bool {
+                self as usize >= Slip::ConverterTakesVersion2 as usize
+            }
         }
     };
 }
@@ -31,6 +36,11 @@ slips! {
     Month3Full,
 
     // Refusals.
+    Version2Refused,
+    Version3Passes,
+    VersionByItsLowByte,
+    Version2CountOfTwoBytes,
+    Version1CountOfOneByte,
     AnyByte12Marks,
     AssetsBeforeCounterparties,
     MitigantsBeforeAssets,
@@ -150,6 +160,24 @@ slips! {
     LinesWithoutExposure,
     TierSetWithoutLowest,
     TierSetOf13Bits,
+
+    // The converter.
+    ConverterTakesVersion2,
+    ConverterTakesVersion0,
+    Mitigants256Pass,
+    Mitigants255Refused,
+    ManyMitigantsOfLinkedPass,
+    ManyMitigantsTogether,
+    ManyMitigantsLastPlace,
+    ManyMitigantsWithoutPlace,
+    ManyMitigantsBefore15,
+    ManyMitigantsAfter16,
+    ExactOutputRefused,
+    OutputOneByteShortPasses,
+    ConvertedKeepsVersion1,
+    ConvertedVersionInHighByte,
+    ConvertedToDesk1,
+    ConvertedCountInByte7,
 }
 
 impl Slip {
@@ -163,6 +191,23 @@ impl Rules for Slip {
         match self {
             Slip::AnyByte12Marks => Some(byte != 0),
             _ => Documents.specialist(byte),
+        }
+    }
+
+    fn version_passes(&self, version: u16) -> bool {
+        match self {
+            Slip::Version2Refused => version == 1,
+            Slip::Version3Passes => matches!(version, 1..=3),
+            Slip::VersionByItsLowByte => matches!(version as u8, 1 | 2),
+            _ => Documents.version_passes(version),
+        }
+    }
+
+    fn count(&self, version: u16, bytes: [u8; 2]) -> u16 {
+        match self {
+            Slip::Version2CountOfTwoBytes => Documents.count(1, bytes),
+            Slip::Version1CountOfOneByte => Documents.count(2, bytes),
+            _ => Documents.count(version, bytes),
         }
     }
 
@@ -249,6 +294,68 @@ impl Rules for Slip {
         match self {
             Slip::ExactBufferRefused => buffer > report,
             _ => Documents.buffer_accepted(buffer, report),
+        }
+    }
+
+    fn converter_takes(&self, version: u16) -> bool {
+        match self {
+            Slip::ConverterTakesVersion2 => matches!(version, 1 | 2),
+            Slip::ConverterTakesVersion0 => version <= 1,
+            _ => Documents.converter_takes(version),
+        }
+    }
+
+    fn too_many_mitigants(&self, book: &Book) -> Option<Place> {
+        let found = |too_many: fn(&Asset) -> bool| {
+            let mut assets = (1..).zip(&book.assets);
+            assets.find(|(_, asset)| too_many(asset)).map(|(place, _)| place)
+        };
+        match self {
+            Slip::Mitigants256Pass => found(|asset| asset.count > 256),
+            Slip::Mitigants255Refused => found(|asset| asset.count >= 255),
+            Slip::ManyMitigantsOfLinkedPass => found(|asset| !asset.linked && asset.count > 255),
+            Slip::ManyMitigantsTogether if book.mitigants > 255 => Some(1),
+            Slip::ManyMitigantsLastPlace => {
+                let assets = (1..).zip(&book.assets);
+                assets.filter(|(_, asset)| asset.count > 255).last().map(|(place, _)| place)
+            }
+            Slip::ManyMitigantsWithoutPlace => found(|asset| asset.count > 255).map(|_| 0),
+            _ => Documents.too_many_mitigants(book),
+        }
+    }
+
+    fn first_of_converter(&self, found: [Option<Refusal>; 3]) -> Option<Refusal> {
+        let [of_book, many, short] = found;
+        match self {
+            Slip::ManyMitigantsBefore15 if of_book == Some(Refusal::StressedAssets) => {
+                many.or(of_book)
+            }
+            Slip::ManyMitigantsAfter16 => of_book.or(short).or(many),
+            _ => Documents.first_of_converter(found),
+        }
+    }
+
+    fn output_accepted(&self, output: usize, book: usize) -> bool {
+        match self {
+            Slip::ExactOutputRefused => output > book,
+            Slip::OutputOneByteShortPasses => output + 1 >= book,
+            _ => Documents.output_accepted(output, book),
+        }
+    }
+
+    fn converted_version(&self) -> u16 {
+        match self {
+            Slip::ConvertedKeepsVersion1 => 1,
+            Slip::ConvertedVersionInHighByte => 0x0201,
+            _ => Documents.converted_version(),
+        }
+    }
+
+    fn narrowed(&self, count: u16) -> [u8; 2] {
+        match self {
+            Slip::ConvertedToDesk1 => [count as u8, 1],
+            Slip::ConvertedCountInByte7 => [0, count as u8],
+            _ => Documents.narrowed(count),
         }
     }
 

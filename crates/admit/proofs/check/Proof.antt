@@ -21,7 +21,7 @@ specialist-check-requires : tie.Need-specialist-check-requires
 specialist-check-requires c κs =
     let e = c .before .before .before .header-at .ensures in
     let h = header-counts _ e in
-    (header-fits _ (sym (c .before .before .before .before .before .before .header-check .ensures) ∙ c .before .before .before .before .enum-told .given .1), header-specialist _ e, h .1, omega (arith, c .assets-start .ensures, h .0))
+    (header-fits _ (sym (c .before .before .before .before .before .before .header-check .ensures) ∙ c .before .before .before .before .enum-told .given .1), header-specialist _ e, h .1, c .assets-of .ensures)
 
 returns-2 : tie.Need-returns-2
 returns-2 c = by-header _ (omega arith) (c .before .before .before .header-check .ensures) (c .before .header .given .1)

@@ -14,7 +14,7 @@ counterparties-check-requires c κs =
 assets-check-requires : tie.Need-assets-check-requires
 assets-check-requires c κs =
     let h = header-counts _ (c .before .before .before .before .header-at .ensures) in
-    (c .before .before .before .before .before .before .pre, h .0, h .1, omega (arith, c .before .assets-start .ensures))
+    (c .before .before .before .before .before .before .pre, h .0, h .1, c .before .assets-of .ensures)
 
 mitigants-check-requires : tie.Need-mitigants-check-requires
 mitigants-check-requires c κs =
@@ -24,7 +24,7 @@ mitigants-check-requires c κs =
 counts-add-requires : tie.Need-counts-add-requires
 counts-add-requires c κs =
     let h = header-counts _ (c .before .before .before .before .before .before .before .header-at .ensures) in
-    (c .before .before .before .before .before .before .before .before .before .pre, h .1, omega (arith, c .before .before .before .before .assets-start .ensures))
+    (c .before .before .before .before .before .before .before .before .before .pre, h .1, c .before .before .before .before .assets-of .ensures)
 
 returns : tie.Need-returns
 unfolding countsCheck recordsCheck

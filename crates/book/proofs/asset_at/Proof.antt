@@ -1,39 +1,18 @@
--- `asset_at`: the asset's eleven fields stand where `assetAt` reads them.
-use Rattle.book.specs.Records.{assetAt}
+-- `asset_at`: the asset that starts where its place says.
+use native.Mathlib.Omega.{arith}
+use Rattle.book.specs.HeaderLaws.{assets-start, assets-counts}
 use borrow.Author.Needs.{needs}
 use Rattle.book.proofs.asset_at.Statement.{statement}
 use Rattle.book.proofs.asset_at.Tie as tie
 
+add-asset-from : tie.Need-add-asset-from
+add-asset-from c = omega (arith, assets-start _ (c .before .before .pre .0))
+
+asset-from-requires : tie.Need-asset-from-requires
+asset-from-requires c κs = (omega (arith, assets-start _ (c .before .before .pre .0)), assets-counts _ (c .before .before .pre .0))
+
 returns : tie.Need-returns
-unfolding assetAt
-returns c = rw (c .u64-at5 .ensures, c .before .u64-at4 .ensures, c .before .before .u64-at3 .ensures, c .before .before .before .u64-at2 .ensures, c .before .before .before .before .u64-at .ensures, c .before .before .before .before .before .u16-at2 .ensures, c .before .before .before .before .before .before .u16-at .ensures, c .before .before .before .before .before .before .before .before .before .before .before .before .pre .0)
+returns c = rw (c .asset-from .ensures, assets-start _ (c .before .before .before .pre .0))
 
 pub asset-at-spec : {M : Type 1} → statement M
-asset-at-spec =
-    tie.close
-    (tie.spec
-    (λ c. search needs)
-    (λ c. search needs)
-    (λ c. search needs)
-    (λ c. search needs)
-    (λ c. search needs)
-    (λ c. search needs)
-    (λ c. search needs)
-    (λ c. search needs)
-    (λ c. search needs)
-    (λ c. search needs)
-    (λ c. search needs)
-    (λ c κs. search needs)
-    (λ c. search needs)
-    (λ c κs. search needs)
-    (λ c. search needs)
-    (λ c κs. search needs)
-    (λ c. search needs)
-    (λ c κs. search needs)
-    (λ c. search needs)
-    (λ c κs. search needs)
-    (λ c. search needs)
-    (λ c κs. search needs)
-    (λ c. search needs)
-    (λ c κs. search needs)
-    returns)
+asset-at-spec = tie.close (tie.spec (λ c. search needs) (λ c. search needs) add-asset-from asset-from-requires returns)

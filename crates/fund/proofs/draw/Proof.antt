@@ -3,14 +3,14 @@ use native.Mathlib.Omega.{arith}
 use denote.Ref.{now}
 use Rattle.book.specs.HeaderLaws.{header-counts}
 use Rattle.cells.specs.CellLaws.{rowed}
-use Rattle.fund.proofs.Drawing.{assets-from, mitigants-from, known, lent, pass-ready, pass-placed, pass-tabled, drew, summed}
+use Rattle.fund.proofs.Drawing.{mitigants-from, known, lent, pass-ready, pass-placed, pass-tabled, drew, summed}
 use borrow.Author.Needs.{needs}
 use Rattle.fund.proofs.draw.Statement.{statement}
 use Rattle.fund.proofs.draw.Tie as tie
 use Rattle.fund.proofs.draw.Reads as reads
 use Rattle.fund.proofs.draw.Lts as lts
 use Rattle.assets.proofs.fill.Reads as fill-reads
-use Rattle.book.proofs.assets_start.Reads as assets-start-reads
+use Rattle.book.proofs.assets_of.Reads as assets-of-reads
 use Rattle.book.proofs.header_at.Reads as header-at-reads
 use Rattle.book.proofs.mitigants_start.Reads as mitigants-start-reads
 use Rattle.cells.proofs.post.Reads as post-reads
@@ -27,7 +27,7 @@ fill-requires c κs =
     let s = c .before .before .before .before .before .before .before .before .before .before .before .before .before .before .before .before .before .before .before in
     let e = c .before .before .before .before .before .before .before .before .header-at .ensures in
     let B = now (s .args .book) in
-    (s .pre .0, assets-from B e (c .before .before .before .before .before .assets-start .ensures), header-counts B e .1, s .pre .2, lent (s .pre .3))
+    (s .pre .0, c .before .before .before .before .before .assets-of .ensures, header-counts B e .1, s .pre .2, lent (s .pre .3))
 
 -- src/lib.rt:67:5
 cover-requires : tie.Need-cover-requires

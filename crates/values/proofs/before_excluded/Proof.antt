@@ -14,13 +14,13 @@ use Rattle.values.proofs.before_excluded.Tie as tie
 add-result : tie.Need-add-result
 unfolding headerAt
 add-result c =
-    let s = c .before .before .before .before in
-    let t : c .before .before .header-at .result .total ≡ total (now (s .args .b)) = ap (λ (h : Header). h .total) (c .before .before .header-at .ensures) in
-    omega (arith, c .before .less .ensures, stressed-sum-le (now (s .args .b)) (s .pre .0), s .pre .1 .stressed, s .pre .0 .total, t)
+    let s = c .before .before .before in
+    let t : c .before .header-at .result .total ≡ total (now (s .args .b)) = ap (λ (h : Header). h .total) (c .before .header-at .ensures) in
+    omega (arith, c .less .ensures, stressed-sum-le (now (s .args .b)) (s .pre .0), s .pre .2, s .pre .0 .total, t)
 
 returns : tie.Need-returns
 unfolding beforeExcluded bookOf headerAt
-returns c = cc (ap (λ (h : Header). h .total) (c .before .before .header-at .ensures))
+returns c = cc (ap (λ (h : Header). h .total) (c .before .header-at .ensures))
 
 pub before-excluded-spec : {M : Type 1} → statement M
 before-excluded-spec = tie.close (tie.spec (λ c κs. search needs) (λ c κs. search needs) add-result returns)

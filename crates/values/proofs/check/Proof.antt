@@ -1,27 +1,10 @@
--- `check`: the chain of `fundCheck`.
-use Rattle.exposure.specs.Values.{fundCheck}
-use mathlib.Core.Path.{ap}
-use Rattle.book.specs.declared.Header.{Header}
-use Rattle.book.specs.Records.{headerAt}
-use Rattle.book.specs.Book.{bookOf}
+-- `check`: by two of the sums.
 use borrow.Author.Needs.{needs}
 use Rattle.values.proofs.check.Statement.{statement}
 use Rattle.values.proofs.check.Tie as tie
 
-returns : tie.Need-returns
-unfolding fundCheck bookOf headerAt
-returns c =
-    let h = c .before .before .before .before .before .before .before .before in
-    cc (ap (λ (h : Header). h .total) (h .header-at .ensures), ap (λ (h : Header). h .excluded) (h .header-at .ensures))
+check-sums-requires : tie.Need-check-sums-requires
+check-sums-requires c κs = (c .before .pre .0, c .before .pre .1 .reinsurance, c .before .pre .1 .stressed)
 
 pub check-spec : {M : Type 1} → statement M
-check-spec =
-    tie.close
-    (tie.spec
-    (λ c κs. search needs)
-    (λ c κs. search needs)
-    (λ c κs. search needs)
-    (λ c κs. search needs)
-    (λ c κs. search needs)
-    (λ c κs. search needs)
-    returns)
+check-spec = tie.close (tie.spec check-sums-requires (λ c. search needs))

@@ -4,7 +4,7 @@ use Rattle.weightrose.proofs.pack.Statement.{statement}
 use Rattle.weightrose.proofs.pack.Tie as tie
 
 returns-2 : tie.Need-returns-2
-returns-2 c = cc
+returns-2 c = rw (c .place .ensures .0, c .before .number .ensures .0, c .before .before .before .answer2 .given .1)
 
 pub pack-spec : {M : Type 1} → statement M
 pack-spec =
