@@ -5,7 +5,7 @@
 --   assetsStart mitigantsStart bookSize                  where a section starts, and how many bytes its counts give a book
 --   counterpartyStart assetStart mitigantStart           where the record of a place starts
 --   kindOf                                               the kind of a number
---   countFrom deskFrom                                   what the version makes of an asset's bytes 6 and 7
+--   countIn deskIn                                       what the version makes of an asset's bytes 6 and 7
 --   countMask assetsOf                                   where the assets stand, for the code
 --   assetFrom                                            the asset whose record starts at a byte
 --   counterpartyAt assetAt mitigantAt                    the record of a place
@@ -134,12 +134,12 @@ counterpartyAt b place =
     }
 
 -- "u16 count of mitigants"; C-13: "Book version 2 narrows the count of mitigants from two bytes to byte 6"
-abbrev pub countFrom : List ℕ → ℕ → ℕ
-countFrom b at = if version b =? 2 then byteAt b (at + 6) else u16At b (at + 6)
+abbrev pub countIn : List ℕ → ℕ → ℕ
+countIn b at = if version b =? 2 then byteAt b (at + 6) else u16At b (at + 6)
 
 -- C-13: "and byte 7 holds the desk, 0 to 255"; a book of version 1 has desk 0 alone
-abbrev pub deskFrom : List ℕ → ℕ → ℕ
-deskFrom b at = if version b =? 2 then byteAt b (at + 7) else 0
+abbrev pub deskIn : List ℕ → ℕ → ℕ
+deskIn b at = if version b =? 2 then byteAt b (at + 7) else 0
 
 -- the most that a count of mitigants can be, a mask of bytes 6 and 7
 abbrev pub countMask : List ℕ → ℕ
@@ -159,8 +159,8 @@ assetFrom b at =
       entry = byteAt b (at + 2);
       months = byteAt b (at + 3);
       counterparty = u16At b (at + 4);
-      count = countFrom b at;
-      desk = deskFrom b at;
+      count = countIn b at;
+      desk = deskIn b at;
       value = u64At b (at + 8);
       offsets = u64At b (at + 16);
       deductions = u64At b (at + 24);

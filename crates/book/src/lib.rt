@@ -11,7 +11,12 @@ ghost use Rattle.book.specs.Fields.{kindNumber, graded, linked, rises, r
 // The versions: in the second a count of mitigants has one byte, and the byte behind it is the desk.
 const FIRST: u16 = 1;
 
-const WITH_DESKS: u16 = 2;
+pub const WITH_DESKS: u16 = 2;
+
+// What of an asset's bytes 6 and 7 is its count of mitigants in the first version, and in the second.
+const BOTH_BYTES: u16 = 65535;
+
+const ONE_BYTE: u16 = 255;
 
 // How many bytes the header and a record of each type have.
 pub const HEADER_SIZE: usize = 40;
@@ -73,8 +78,8 @@ pub struct Asset {
 
 // Where the assets stand: the first one's start, and the mask of an asset's bytes 6 and 7 that leaves its count of mitigants.
 pub struct Assets {
-    pub start: usize,
-    pub counts: u16,
+    start: usize,
+    counts: u16,
 }
 
 pub struct Mitigant {
@@ -213,7 +218,7 @@ pub fn assets_of(b: &[u8]) -> Assets
     let h = header_at(b);
     Assets {
         start: assets_start(h),
-        counts: choice::short(has_desks(b), 255, 65535),
+        counts: choice::short(has_desks(b), ONE_BYTE, BOTH_BYTES),
     }
 }
 
@@ -229,7 +234,7 @@ fn asset_from(b: &[u8], at: usize, counts: u16) -> Asset
         months: b[at + 3],
         counterparty: wire::u16_at(b, at + 4),
         count: wire::masked_at(b, at + 6, counts),
-        desk: choice::byte(counts == 255, b[at + 7], 0),
+        desk: choice::byte(counts == ONE_BYTE, b[at + 7], 0),
         value: wire::u64_at(b, at + 8),
         offsets: wire::u64_at(b, at + 16),
         deductions: wire::u64_at(b, at + 24),

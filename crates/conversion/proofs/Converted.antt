@@ -4,7 +4,6 @@
 --   converted-long    as long
 --   converted-book    the same records
 --   converted-check   the same refusals of 5 to 13 and 17
-use mathlib.Core.Bool.{Bool, true, false}
 use mathlib.Core.List.{List, _∷_}
 use mathlib.Core.Path.{_≡_, refl, sym, ap, ap₂, fun-ext, _∙_}
 use Prim.Native.Nat.{ℕ, zero, suc, _+_, _*_, _-_, _/_, _%_, _≤_, _<_}
@@ -21,9 +20,9 @@ use Rattle.refusal.specs.Chain.{refuse_unless_, _andThen_}
 use Rattle.refusal.specs.Laws.{then-first, then-rest, unless-fine, each-good, first-same}
 use Rattle.book.specs.declared.Asset.{Asset}
 use Rattle.book.specs.declared.Mitigant.{Mitigant}
-use Rattle.book.specs.Records.{headerSize, version, C, N, K, specialist, assetsStart, assetStart, countFrom, deskFrom, counterpartyAt, assetFrom, assetAt, mitigantAt}
-use Rattle.book.specs.Book.{Holding, Book, mitigantsFrom, holdingsFrom, bookOf}
-use Rattle.book.specs.Check.{bookMarked, versionKnown, countsFit, amountsFit, goodCounterparty, goodAsset, goodMitigant, entryAllowed, countsAdd, headerCheck, counterpartiesCheck, assetsCheck, mitigantsCheck, countsCheck, recordsCheck, specialistCheck, bookCheck}
+use Rattle.book.specs.Records.{headerSize, assetSize, version, C, N, K, specialist, assetStart, countIn, deskIn, counterpartyAt, assetFrom, assetAt, mitigantAt}
+use Rattle.book.specs.Book.{mitigantsFrom, holdingsFrom, bookOf}
+use Rattle.book.specs.Check.{bookMarked, countsFit, amountsFit, goodCounterparty, goodAsset, goodMitigant, entryAllowed, countsAdd, headerCheck, counterpartiesCheck, assetsCheck, mitigantsCheck, countsCheck, recordsCheck, specialistCheck, bookCheck}
 use Rattle.conversion.specs.Conversion.{versioned, recounted, converted, rebuilt, firstCheck, narrowCheck, Narrow}
 use Rattle.conversion.proofs.Reading.{SameBut4, past, u16-same, u64-same, base-same, counterparty-same, good-same, assets-same, mitigant-same, asset-same}
 
@@ -113,7 +112,7 @@ module _ (b : List ℕ) (w : Narrow b) where
   counts-same = u16-same same 8 (omega arith)
 
   start-same : (p : ℕ) → assetStart two p ≡ assetStart b p
-  start-same p = ap (λ (n : ℕ). n + 48 * (p - 1)) (assets-same same)
+  start-same p = ap (λ (n : ℕ). n + assetSize * (p - 1)) (assets-same same)
 
   six-two : (p : ℕ) → 0 < p → p ≤ N b → byteAt two (assetStart b p + 6) ≡ assetAt b p .count
   six-two p l k = past same (assetStart b p + 6) (omega arith) ∙ six-is p l k
@@ -125,8 +124,8 @@ module _ (b : List ℕ) (w : Narrow b) where
   unfolding assetFrom
   asset-two p l k =
       let at = assetStart b p in
-      let count : countFrom two at ≡ countFrom b at = rw version-two (six-two p l k) in
-      let desk : deskFrom two at ≡ deskFrom b at = rw version-two (seven-two p l k ∙ sym (desk-none p)) in
+      let count : countIn two at ≡ countIn b at = rw version-two (six-two p l k) in
+      let desk : deskIn two at ≡ deskIn b at = rw version-two (seven-two p l k ∙ sym (desk-none p)) in
       asset-same same p count desk
 
   back-to-one : set two 4 1 ≡ b

@@ -1,16 +1,14 @@
 -- What is read of a book c whose bytes are those of b but for byte 4.
---   u16-same u64-same                                     numbers that stand behind it
---   counterparty-same good-same mitigant-same             records, which asset-same has of a Narrow b and a version 2 of c
---   header-same length-same                               the header behind the version
-use mathlib.Core.Bool.{Bool, true, false}
+--   past u16-same u64-same base-same        bytes and numbers behind it
+--   counterparty-same good-same mitigant-same asset-same   records, an asset where both make the same of its bytes 6 and 7
+--   assets-same mitigants-same              where the sections start
 use mathlib.Core.List.{List}
-use mathlib.Core.Path.{_≡_, refl, sym, ap, ap₂, _∙_}
-use Prim.Native.Nat.{ℕ, zero, suc, _+_, _*_, _-_, _≤_, _<_}
+use mathlib.Core.Path.{_≡_, ap, ap₂}
+use Prim.Native.Nat.{ℕ, _+_, _*_, _-_, _≤_}
 use native.Mathlib.Omega.{arith}
 use lib.ListN.{length}
-use Rattle.words.specs.Words.{_=?_, if_then_else_}
 use Rattle.wire.specs.Bytes.{byteAt, u16At, u64At, i64At, signedOf}
-use Rattle.book.specs.Records.{version, C, N, K, total, base, excluded, specialist, assetsStart, mitigantsStart, countFrom, deskFrom, counterpartyAt, assetFrom, assetAt, mitigantAt}
+use Rattle.book.specs.Records.{headerSize, counterpartySize, assetSize, base, assetsStart, mitigantsStart, counterpartyStart, assetStart, mitigantStart, countIn, deskIn, counterpartyAt, assetFrom, assetAt, mitigantAt}
 use Rattle.book.specs.Check.{goodCounterparty}
 
 pub record SameBut4 (b c : List ℕ) : Type 0 where
@@ -37,29 +35,29 @@ module _ {b c : List ℕ} (s : SameBut4 b c) where
 
   pub counterparty-same : (p : ℕ) → counterpartyAt c p ≡ counterpartyAt b p
   unfolding counterpartyAt
-  counterparty-same p = let at = 40 + 4 * (p - 1) in rw (u16-same at (omega arith), past (at + 2) (omega arith), past (at + 3) (omega arith))
+  counterparty-same p = let at = counterpartyStart p in rw (u16-same at (omega arith), past (at + 2) (omega arith), past (at + 3) (omega arith))
 
   pub good-same : (p : ℕ) → goodCounterparty c p ≡ goodCounterparty b p
   unfolding goodCounterparty
-  good-same p = let at = 40 + 4 * (p - 1) in rw (u16-same at (omega arith), past (at + 2) (omega arith), past (at + 3) (omega arith))
+  good-same p = let at = counterpartyStart p in rw (u16-same at (omega arith), past (at + 2) (omega arith), past (at + 3) (omega arith))
 
   pub assets-same : assetsStart c ≡ assetsStart b
-  assets-same = ap (λ (n : ℕ). 40 + 4 * n) (u16-same 6 (omega arith))
+  assets-same = ap (λ (n : ℕ). headerSize + counterpartySize * n) (u16-same 6 (omega arith))
 
   pub mitigants-same : mitigantsStart c ≡ mitigantsStart b
-  mitigants-same = ap₂ (λ (m n : ℕ). m + 48 * n) assets-same (u16-same 8 (omega arith))
+  mitigants-same = ap₂ (λ (m n : ℕ). m + assetSize * n) assets-same (u16-same 8 (omega arith))
 
   pub mitigant-same : (p : ℕ) → mitigantAt c p ≡ mitigantAt b p
   unfolding mitigantAt
   mitigant-same p =
-      let at = mitigantsStart b + 12 * (p - 1) in
+      let at = mitigantStart b p in
       rw (mitigants-same, past at (omega arith), past (at + 1) (omega arith), u16-same (at + 2) (omega arith), u64-same (at + 4) (omega arith))
 
   -- where both make the same of bytes 6 and 7, an asset is the same
-  pub asset-same : (p : ℕ) → countFrom c (assetsStart b + 48 * (p - 1)) ≡ countFrom b (assetsStart b + 48 * (p - 1)) → deskFrom c (assetsStart b + 48 * (p - 1)) ≡ deskFrom b (assetsStart b + 48 * (p - 1)) → assetAt c p ≡ assetAt b p
+  pub asset-same : (p : ℕ) → countIn c (assetStart b p) ≡ countIn b (assetStart b p) → deskIn c (assetStart b p) ≡ deskIn b (assetStart b p) → assetAt c p ≡ assetAt b p
   unfolding assetFrom
   asset-same p e f =
-      let at = assetsStart b + 48 * (p - 1) in
+      let at = assetStart b p in
       rw (
         assets-same,
         past at (omega arith),

@@ -3,7 +3,7 @@
 --   edges                         7, 18 and their places
 -- The counts are what is looked at: the lists of mitigants are shorter than they say, which no definition here reads.
 use mathlib.Core.Bool.{Bool, _&&_}
-use mathlib.Core.List.{List, [], _∷_, _++_}
+use mathlib.Core.List.{List, [], _∷_}
 use mathlib.Core.Path.{_≡_, refl}
 use Prim.Native.Nat.{ℕ}
 use lib.Dec.{T}

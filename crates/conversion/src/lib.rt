@@ -8,8 +8,8 @@ ghost use lib.ListN.{length, drop};
 ghost use Rattle.book.specs.Accepted.{Accepted};
 ghost use Rattle.conversion.specs.Conversion.{converted, firstCheck, narrowCheck, Narrow};
 
-// The version of a converted book, whose high byte is 0 as that of the first version is.
-const VERSION: u8 = 2;
+// The version of a converted book; its high byte is 0, as that of the first version is.
+const VERSION: u8 = book::WITH_DESKS as u8;
 
 // The most that a count of one byte can be.
 const MOST_COUNT: u16 = 255;

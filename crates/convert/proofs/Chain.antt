@@ -1,12 +1,10 @@
 -- The answer, section by section of the checks: what is refused changes no byte; what is converted keeps everything.
 use mathlib.Core.List.{List, _++_}
-use mathlib.Core.Path.{_≡_, refl, sym, ap, ap₂, _∙_}
+use mathlib.Core.Path.{_≡_, refl, sym, ap, _∙_}
 use Prim.Native.Nat.{ℕ, _≤_, _<_}
-use native.Mathlib.Omega.{arith}
 use lib.ListN.{length, take, drop}
 use lib.Seq.{take-append-seam}
 use borrow.Author.Tests.{le-leb, lt-leb}
-use Rattle.refusal.specs.declared.Checked.{Checked}
 use Rattle.refusal.specs.declared.Checked.the-variants.{Fine, Bad}
 use Rattle.refusal.specs.declared.Answer.the-variants.{Written, Refused}
 use Rattle.refusal.specs.declared.Refusal.{Refusal}
@@ -15,11 +13,10 @@ use Rattle.refusal.specs.Chain.{_andThen_}
 use Rattle.refusal.specs.Laws.{then-first, then-rest}
 use Rattle.book.specs.Book.{bookOf}
 use Rattle.book.specs.Check.{bookCheck}
-use Rattle.book.specs.Accepted.{Accepted}
 use Rattle.conversion.specs.Conversion.{converted, firstCheck, narrowCheck, Narrow}
 use Rattle.conversion.proofs.Converted.{narrow, converted-long, converted-book, converted-check, rebuilt-is}
 use Rattle.exposure.specs.Values.{fundCheck}
-use Rattle.report.specs.Answer.{fundIn, reportOf, checkOf, answerOf, writtenBy}
+use Rattle.report.specs.Answer.{fundIn, reportOf, checkOf, answerOf}
 use Rattle.convert.specs.Convert.{bookConverts, convertAnswer, Kept, Converts}
 
 -- ---- the checks of the book

@@ -6,7 +6,7 @@ use native.Mathlib.Omega.{arith}
 use lib.ListN.{length, getD}
 use Rattle.words.specs.Tables.{filled-length, filled-at}
 use Rattle.book.specs.declared.Header.{Header}
-use Rattle.book.specs.Records.{headerSize, counterpartySize, assetSize, N, assetsStart, mitigantsStart, headerAt, assetAt}
+use Rattle.book.specs.Records.{headerSize, counterpartySize, assetSize, N, mitigantsStart, headerAt, assetAt}
 use Rattle.book.specs.HeaderLaws.{header-counts}
 use Rattle.book.specs.Accepted.{Accepted}
 use Rattle.parties.specs.Rows.{Parties}

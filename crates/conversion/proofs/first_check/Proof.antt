@@ -1,5 +1,4 @@
 -- `first_check`: the chain of 5 to 7.
-use native.Mathlib.Omega.{arith}
 use borrow.Author.Tests.{le-leb, lt-leb}
 use Rattle.conversion.specs.Conversion.{firstCheck}
 use borrow.Author.Needs.{needs}

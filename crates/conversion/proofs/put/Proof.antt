@@ -1,10 +1,10 @@
 -- `put`: the book's bytes and another byte 4 are the converted book.
 use mathlib.Core.List.{List, _++_}
-use mathlib.Core.Path.{_≡_, sym, ap, _∙_}
+use mathlib.Core.Path.{sym, ap, _∙_}
 use native.Mathlib.Omega.{arith}
 use Prim.Native.Nat.{ℕ}
 use denote.Ref.{now}
-use lib.ListN.{length, set, drop, length-set, length-append}
+use lib.ListN.{length, set, drop}
 use lib.Seq.{set-append-left}
 use borrow.Author.Needs.{needs}
 use Rattle.conversion.proofs.Converted.{converted-is}

@@ -1,6 +1,5 @@
 -- `check`: section by section; a book that the first ones let pass is what the ones behind them require.
 use mathlib.Core.Path.{sym, _∙_}
-use denote.Ref.{now}
 use Rattle.book.specs.AcceptedLaws.{accepted}
 use Rattle.convert.proofs.Chain.{bad-first, bad-book, of-both}
 use borrow.Author.Needs.{needs}

@@ -5,7 +5,6 @@ use Prim.Native.Nat.{ℕ, zero, suc, _+_, _-_, _≤_, _<_}
 use native.Mathlib.Omega.{arith}
 use lib.ListN.{length, take, drop, getD, set, length-set}
 use lib.Seq.{take-length}
-use borrow.Author.Needs.{needs}
 use Rattle.wire.proofs.put_all.Statement.{statement}
 use Rattle.wire.proofs.put_all.Tie as tie
 
