@@ -4,7 +4,8 @@
  * Weightrose turns a schedule of limits and a book of assets, both bytes, into a report of the
  * asset concentration charge, or answers with one refusal.
  *
- * A book of the first version can be turned into one of the second, which names desks.
+ * A book of the first version can be turned into one of the second, which names desks, and the
+ * desks can be billed for what the charge costs.
  *
  * All functions are plain computations over the bytes handed to them: they allocate nothing,
  * read and write no file, keep nothing between calls and share nothing between threads, so any
@@ -50,6 +51,14 @@ extern "C" {
 #define WEIGHTROSE_REPORT_HEADER_SIZE 72
 #define WEIGHTROSE_REPORT_LINE_SIZE 40
 #define WEIGHTROSE_MOST_REPORT_SIZE 96072
+
+/* The desks, 0 to 255, and the bytes of their bills: eight for each, always all of them. */
+#define WEIGHTROSE_DESKS 256
+#define WEIGHTROSE_BILL_SIZE 8
+#define WEIGHTROSE_BILLS_SIZE 2048
+
+/* The most that a cost rate may be, in ten-thousandths. */
+#define WEIGHTROSE_MOST_COST_RATE 1000
 
 /* ========================================================================== */
 /*                                  Layouts                                   */
@@ -115,14 +124,14 @@ extern "C" {
  *    2  u16  counterparty
  *    4  u64  value
  *
- * The report's layout is below, with the names of its fields.
+ * The report's layout is below, with the names of its fields, and so is that of the bills.
  */
 
 /*
  * Versions of a book. Bytes 6 and 7 of an asset are all that the two versions have apart, and a
  * book is read by the version that its header states. No report reads a desk: two books that
- * differ in desks alone get the same report, byte for byte. weightrose_convert() turns a book of
- * version 1 into one of version 2.
+ * differ in desks alone get the same report, byte for byte. weightrose_bills() alone reads them.
+ * weightrose_convert() turns a book of version 1 into one of version 2.
  */
 
 /*
@@ -149,12 +158,13 @@ extern "C" {
 /* ========================================================================== */
 
 /*
- * Why a schedule or a book was turned back, and the answer is the first check that fails.
- * weightrose_report() makes them by rising number, but for 17, which is checked after 13 and before
- * 14. weightrose_convert() makes them in the order 5 to 13, 17, 14, 15, 18, 16.
+ * Why a schedule, a book, a cost rate or a buffer was turned back, and the answer is the first
+ * check that fails. weightrose_report() makes them by rising number, but for 17, which is checked
+ * after 13 and before 14. weightrose_convert() makes them in the order 5 to 13, 17, 14, 15, 18, 16,
+ * and weightrose_bills() in the order 1 to 13, 17, 14, 15, 19, 16.
  */
 enum weightrose_refusal {
-	/* Nothing was refused: there is a report, or a converted book. */
+	/* Nothing was refused: there is a report, a converted book, or bills. */
 	WEIGHTROSE_ACCEPTED = 0,
 	/* The schedule is not of 122 bytes. */
 	WEIGHTROSE_SCHEDULE_LENGTH = 1,
@@ -187,18 +197,20 @@ enum weightrose_refusal {
 	WEIGHTROSE_REINSURANCE_VALUES = 14,
 	/* The assets under stress (VAF', paragraph 20) are below 0 or over the most. */
 	WEIGHTROSE_STRESSED_ASSETS = 15,
-	/* The buffer is shorter than the report, or than the book to be converted. */
+	/* The buffer is shorter than the report, than the book to be converted, or than the bills. */
 	WEIGHTROSE_BUFFER_SHORT = 16,
 	/* An asset, linked or not, has entry class 3 in a book that is no specialist fund's. The
 	 * place is its own, the first such asset's. Checked after 13 and before 14. */
 	WEIGHTROSE_SPECIALIST_ENTRY = 17,
 	/* An asset, linked or not, of a book to be converted has more than 255 mitigants. The place
 	 * is its own, the first such asset's. Checked after 15 and before 16. */
-	WEIGHTROSE_MANY_MITIGANTS = 18
+	WEIGHTROSE_MANY_MITIGANTS = 18,
+	/* The cost rate is over 1,000 ten-thousandths. Checked after 15 and before 16. */
+	WEIGHTROSE_COST_RATE = 19
 };
 
-/* The refusal of an answer of weightrose_report() or weightrose_convert(), WEIGHTROSE_ACCEPTED where
- * bytes were written. */
+/* The refusal of an answer of weightrose_report(), weightrose_convert() or weightrose_bills(),
+ * WEIGHTROSE_ACCEPTED where bytes were written. */
 static inline enum weightrose_refusal
 weightrose_refusal_of(uint64_t answer)
 {
@@ -214,8 +226,8 @@ weightrose_place_of(uint64_t answer)
 	return (uint32_t)answer;
 }
 
-/* The bytes that were written: those of the report, or of the converted book. Only for an answer
- * without a refusal. */
+/* The bytes that were written: those of the report, of the converted book, or of the bills. Only
+ * for an answer without a refusal. */
 static inline size_t
 weightrose_length_of(uint64_t answer)
 {
@@ -263,10 +275,46 @@ weightrose_convert(const uint8_t *book, size_t book_len,
 		   uint8_t *converted, size_t converted_len);
 
 /*
+ * weightrose_bills() bills each desk for the capital that its excess ties up. It reads
+ * 'schedule_len' bytes at 'schedule' and 'book_len' bytes at 'book', a book of either version, and
+ * changes neither. 'rate' is the cost rate in ten-thousandths; any number may be handed in, and one
+ * over WEIGHTROSE_MOST_COST_RATE is refused. If schedule and book would be accepted by
+ * weightrose_report(), whatever the length of the report, the rate is accepted, and 'bills_len' is
+ * not below WEIGHTROSE_BILLS_SIZE, it writes the bills of all 256 desks at 'bills' and returns
+ * their length, 2,048; bytes behind them stay as they were. Otherwise it returns a refusal and
+ * changes no byte of the buffer. Answers are taken apart as those of weightrose_report(), and the
+ * same holds of pointers, threads and what the buffer has beforehand.
+ *
+ * Excesses: an asset that is not linked has exposure lines, one for each part of it that a mitigant
+ * covers, in the order of its mitigants, then one for its remainder. A covered part is in the group
+ * of the mitigant's counterparty and in the tier of what it becomes there, as in the report, the
+ * remainder in the group and tier of the asset itself; all are of the asset's desk, which is 0 in a
+ * book of version 1. What stands in a tier of a group is WEIGHTROSE_LINE_EXPOSURE less
+ * WEIGHTROSE_LINE_EXCESS of the report's line. It is given to the exposure lines in that tier of
+ * that group, asset by asset in book order: to each its whole amount, as long as so much is left;
+ * to the next one the rest, and to those behind it nothing. What a line is not given is its excess.
+ * Linked assets and exposures without limit have none, and are given nothing. A desk's excess is
+ * the sum of its lines' excesses; that of desk 0 has besides, in books of either version, what
+ * WEIGHTROSE_HEADER_A3_SUM has above WEIGHTROSE_HEADER_A3_LIMIT, if anything. All desks' excesses
+ * add up to WEIGHTROSE_HEADER_CHARGE.
+ *
+ * Bills: desk by desk from 0, the excesses of that desk and of all before it are added up,
+ * multiplied by the rate, divided by 10,000 and rounded down to a cent; the bill is that figure
+ * less the same figure before that desk. The 256 bills so add up to the charge times the rate,
+ * divided by 10,000 and rounded down, to the cent. Each is the cost of the desk's own excess,
+ * rounded down or up, and 0 where there is no excess. Bills follow the order of the assets in the
+ * book, as no report does.
+ */
+uint64_t
+weightrose_bills(const uint8_t *schedule, size_t schedule_len,
+		 const uint8_t *book, size_t book_len, uint64_t rate,
+		 uint8_t *bills, size_t bills_len);
+
+/*
  * weightrose_published() writes the published schedule (LPS 117, Attachment A, paragraphs 1 to 3),
  * 122 bytes, at 'schedule' and returns 122; bytes behind these stay as they were. If
  * 'schedule_len' is below 122, it returns 0 and changes nothing. The schedule it writes is always
- * accepted by weightrose_report().
+ * accepted by weightrose_report() and weightrose_bills().
  */
 uint64_t
 weightrose_published(uint8_t *schedule, size_t schedule_len);
@@ -350,6 +398,22 @@ weightrose_u64(const uint8_t *bytes)
 	for (i = 7; i >= 0; i--)
 		number = number << 8 | bytes[i];
 	return number;
+}
+
+/* ========================================================================== */
+/*                              Reading bills                                 */
+/* ========================================================================== */
+
+/*
+ * Bills are unsigned numbers of 64 bits, one behind the other: that of desk 0 first, that of desk
+ * 255 in the last eight bytes. They are whole cents, and may be over WEIGHTROSE_MOST_AMOUNT.
+ */
+
+/* The bill of that desk, 0 to 255. */
+static inline uint64_t
+weightrose_bill(const uint8_t *bills, unsigned desk)
+{
+	return weightrose_u64(bills + (size_t)desk * WEIGHTROSE_BILL_SIZE);
 }
 
 #ifdef __cplusplus

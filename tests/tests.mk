@@ -52,6 +52,7 @@ compare-before: $(WEIGHTROSE_LIB)
 	mkdir -p $(TESTS_OUT)
 	objcopy --redefine-sym weightrose_report=peer_report \
 	    --redefine-sym weightrose_convert=peer_convert \
+	    --redefine-sym weightrose_bills=peer_bills \
 	    --redefine-sym weightrose_published=peer_published $(BEFORE_LIB) $(TESTS_OUT)/libbefore.a
 	$(CARGO_ENV) YARDSTICK_LIB=$(abspath $(TESTS_OUT)/libbefore.a) \
 	    $(CARGO) run $(CARGO_FLAGS) --profile checked --bin compare -- \

@@ -5,8 +5,9 @@
  * report, walks the report's lines and prints them, and names every refusal in a sentence. It
  * checks itself against document 01's figures (T2, T4, T5 and the table of refusals) and those of
  * document 02's specialist funds (C-11), converts its book to version 2 and books its assets by
- * desk (C-13), and ends with status 1 where anything differs. Each block is as long as its bytes,
- * so that a memory checker sees any byte read or written past its end.
+ * desk (C-13), bills the desks for the capital that their excesses tie up (C-14), and ends with
+ * status 1 where anything differs. Each block is as long as its bytes, so that a memory checker sees
+ * any byte read or written past its end.
  */
 #include "weightrose.h"
 
@@ -228,6 +229,8 @@ sentence(enum weightrose_refusal refusal)
 		return "An asset is a retrocession that only a specialist fund may have.";
 	case WEIGHTROSE_MANY_MITIGANTS:
 		return "An asset has more mitigants than a book of version 2 can count.";
+	case WEIGHTROSE_COST_RATE:
+		return "The cost rate is over a tenth.";
 	}
 	return "The answer is not one of this library's.";
 }
@@ -590,7 +593,7 @@ report_of(struct block book)
 	uint64_t answer = weightrose_report(schedule.bytes, schedule.length, book.bytes, book.length,
 					    room.bytes, room.length);
 
-	expect(weightrose_refusal_of(answer) == WEIGHTROSE_ACCEPTED, "C-13: a book was refused");
+	expect(weightrose_refusal_of(answer) == WEIGHTROSE_ACCEPTED, "a book was refused");
 	room.length = weightrose_length_of(answer);
 	free(schedule.bytes);
 	return room;
@@ -638,6 +641,18 @@ new_converted(struct block book)
 	return converted;
 }
 
+/* Books each asset of a book of version 2 at its desk. */
+static void
+book_at_desks(struct block book, const struct ledger *ledger, const uint8_t *asset_desks)
+{
+	uint8_t *asset = book.bytes + WEIGHTROSE_BOOK_HEADER_SIZE +
+			 ledger->counterparty_count * WEIGHTROSE_COUNTERPARTY_SIZE;
+	size_t i;
+
+	for (i = 0; i < ledger->asset_count; i++)
+		asset[i * WEIGHTROSE_ASSET_SIZE + 7] = asset_desks[i];
+}
+
 /*
  * A ledger moves to version 2: it converts its book, sees that the report is the same, and books
  * each asset at its desk from then on. The old program's book is had again from the new one.
@@ -653,9 +668,9 @@ desks(void)
 	};
 	static const struct mitigant cash[] = { { CASH, 31, 2, 30000000 }, { CASH, 31, 2, 20000000 } };
 	static const uint8_t asset_desks[] = { 7, 255 };
+	static const uint8_t no_desks[] = { 0, 0 };
 	struct ledger ledger = ledger_of(names, COUNT(names), assets, COUNT(assets));
 	struct block old, converted, old_report, new_report_block;
-	size_t i, first = WEIGHTROSE_BOOK_HEADER_SIZE + COUNT(names) * WEIGHTROSE_COUNTERPARTY_SIZE;
 
 	ledger.mitigants = cash;
 	ledger.mitigant_count = COUNT(cash);
@@ -666,8 +681,7 @@ desks(void)
 	expect_same(old_report, new_report_block, "C-13: the converted book has another report");
 	free(new_report_block.bytes);
 
-	for (i = 0; i < COUNT(assets); i++)
-		converted.bytes[first + i * WEIGHTROSE_ASSET_SIZE + 7] = asset_desks[i];
+	book_at_desks(converted, &ledger, asset_desks);
 	new_report_block = report_of(converted);
 	expect_same(old_report, new_report_block, "C-13: desks changed the report");
 	print_report(new_report_block.bytes);
@@ -679,8 +693,7 @@ desks(void)
 
 	/* Back to version 1: its number, and counts of two bytes. */
 	converted.bytes[4] = 1;
-	for (i = 0; i < COUNT(assets); i++)
-		converted.bytes[first + i * WEIGHTROSE_ASSET_SIZE + 7] = 0;
+	book_at_desks(converted, &ledger, no_desks);
 	expect_same(converted, old, "C-13: the old book was not rebuilt");
 	free(old.bytes);
 	free(converted.bytes);
@@ -722,6 +735,190 @@ many_mitigants(void)
 	free(book.bytes);
 }
 
+/* ---- Bills ---- */
+
+/* A desk that is billed, and for what. */
+struct bill {
+	unsigned desk;
+	uint64_t amount;
+};
+
+/* Asks for bills into a buffer of that length and expects the refusal and an untouched buffer. */
+static void
+expect_not_billed(struct block book, uint64_t rate, size_t room, enum weightrose_refusal refusal)
+{
+	struct block schedule = new_schedule();
+	struct block bills = new_block(room);
+	uint64_t answer;
+	size_t i;
+
+	memset(bills.bytes, 0xa5, bills.length);
+	answer = weightrose_bills(schedule.bytes, schedule.length, book.bytes, book.length, rate,
+				  bills.bytes, bills.length);
+	printf("not billed, %d at %" PRIu32 ": %s\n", (int)weightrose_refusal_of(answer),
+	       weightrose_place_of(answer), sentence(weightrose_refusal_of(answer)));
+	expect(weightrose_refusal_of(answer) == refusal, sentence(refusal));
+	expect(weightrose_place_of(answer) == 0, "C-14: a refusal's place");
+	for (i = 0; i < bills.length; i++)
+		expect(bills.bytes[i] == 0xa5, "a refusal changed the bills");
+	free(schedule.bytes);
+	free(bills.bytes);
+}
+
+/* The bills of a book, in a block of their length; the caller frees it. */
+static struct block
+new_bills(struct block book, uint64_t rate)
+{
+	struct block schedule = new_schedule();
+	struct block bills = new_block(WEIGHTROSE_BILLS_SIZE);
+	uint64_t answer = weightrose_bills(schedule.bytes, schedule.length, book.bytes, book.length,
+					   rate, bills.bytes, bills.length);
+
+	printf("C-14 at %" PRIu64 " ten-thousandths: %s\n", rate,
+	       weightrose_refusal_of(answer) == WEIGHTROSE_ACCEPTED ?
+	       "The desks were billed." : sentence(weightrose_refusal_of(answer)));
+	if (weightrose_refusal_of(answer) != WEIGHTROSE_ACCEPTED)
+		exit(EXIT_FAILURE);
+	expect(weightrose_length_of(answer) == WEIGHTROSE_BILLS_SIZE, "C-14: the bills' length");
+	free(schedule.bytes);
+	return bills;
+}
+
+/* Bills a book, prints every desk that has a bill, and expects these desks, rising, and no other;
+ * and that all bills together are what the charge of the book's report costs. */
+static void
+expect_bills(struct block book, uint64_t rate, const struct bill *expected, size_t count)
+{
+	struct block report = report_of(book);
+	struct block bills = new_bills(book, rate);
+	uint64_t charge = weightrose_u64(report.bytes + WEIGHTROSE_HEADER_CHARGE);
+	uint64_t sum = 0;
+	unsigned desk;
+
+	for (desk = 0; desk < WEIGHTROSE_DESKS; desk++) {
+		uint64_t amount = weightrose_bill(bills.bytes, desk);
+
+		sum += amount;
+		if (amount == 0)
+			continue;
+		printf("  desk %u: %" PRIu64 "\n", desk, amount);
+		expect(count > 0 && expected->desk == desk && expected->amount == amount,
+		       "C-14: a bill");
+		if (count > 0) {
+			expected++;
+			count--;
+		}
+	}
+	expect(count == 0, "C-14: a desk was not billed");
+	printf("  together %" PRIu64 " for a charge of %" PRIu64 "\n", sum, charge);
+	expect(sum == charge * rate / 10000, "C-14: the bills do not add up to the charge's cost");
+	free(report.bytes);
+	free(bills.bytes);
+}
+
+/*
+ * A ledger bills its desks: the two tiers of T2, each with an excess at a desk of its own, and the
+ * reinsurers of T8, whose A3 excess goes to desk 0. Before it moved to version 2, all went there.
+ */
+static void
+bills_by_desk(void)
+{
+	static const struct counterparty names[] = {
+		{ NO_PARENT, 0, UNGRADED, 0 },
+		{ NO_PARENT, 0, 1, 0 },
+		{ NO_PARENT, 0, 1, 0 },
+		{ NO_PARENT, 0, 1, 0 },
+	};
+	static const struct asset assets[] = {
+		{ ANY_OTHER, 1, 300000000, 0, 0, NO_ENTRY, 0 },
+		{ TRADED, 1, 300000000, 0, 0, NO_ENTRY, 0 },
+		{ REINSURANCE, 2, 600000000, 600000000, 0, NO_ENTRY, 0 },
+		{ REINSURANCE, 3, 600000000, 600000000, 0, NO_ENTRY, 0 },
+		{ REINSURANCE, 4, 600000000, 600000000, 0, NO_ENTRY, 0 },
+	};
+	static const uint8_t asset_desks[] = { 7, 255, 30, 10, 30 };
+	static const struct bill at_437[] = {
+		{ 0, 10925000 }, { 7, 2185000 }, { 10, 4370000 }, { 30, 8740000 }, { 255, 2185000 },
+	};
+	static const struct bill all_at_437[] = { { 0, 28405000 } };
+	static const struct bill at_most[] = {
+		{ 0, 25000000 }, { 7, 5000000 }, { 10, 10000000 }, { 30, 20000000 }, { 255, 5000000 },
+	};
+	struct ledger ledger = ledger_of(names, COUNT(names), assets, COUNT(assets));
+	struct block old = new_book(&ledger);
+	struct block book = new_converted(old);
+
+	expect_bills(old, 437, all_at_437, COUNT(all_at_437));
+	expect_bills(book, 437, all_at_437, COUNT(all_at_437));
+	book_at_desks(book, &ledger, asset_desks);
+	expect_bills(book, 437, at_437, COUNT(at_437));
+	expect_bills(book, WEIGHTROSE_MOST_COST_RATE, at_most, COUNT(at_most));
+	expect_bills(book, 0, NULL, 0);
+
+	expect_not_billed(book, WEIGHTROSE_MOST_COST_RATE + 1, WEIGHTROSE_BILLS_SIZE,
+			  WEIGHTROSE_COST_RATE);
+	expect_not_billed(book, UINT64_MAX, 0, WEIGHTROSE_COST_RATE);
+	expect_not_billed(book, 437, WEIGHTROSE_BILLS_SIZE - 1, WEIGHTROSE_BUFFER_SHORT);
+	expect_not_billed(book, 437, 0, WEIGHTROSE_BUFFER_SHORT);
+	book.bytes[4] = 3;
+	expect_not_billed(book, WEIGHTROSE_MOST_COST_RATE + 1, 0, WEIGHTROSE_BOOK_VERSION);
+	free(old.bytes);
+	free(book.bytes);
+}
+
+/* Three desks with 3,333, 3,333 and 3,334 cents above a limit: a cent at the third, and at 3
+ * ten-thousandths 0, 1 and 2, where each cost rounded by itself would be 0, 0 and 1. */
+static void
+bills_rounded(void)
+{
+	static const struct counterparty names[] = { { NO_PARENT, 0, UNGRADED, 0 } };
+	static const struct asset assets[] = {
+		{ ANY_OTHER, 1, 250000000, 0, 0, NO_ENTRY, 0 },
+		{ ANY_OTHER, 1, 3333, 0, 0, NO_ENTRY, 0 },
+		{ ANY_OTHER, 1, 3333, 0, 0, NO_ENTRY, 0 },
+		{ ANY_OTHER, 1, 3334, 0, 0, NO_ENTRY, 0 },
+	};
+	static const uint8_t asset_desks[] = { 200, 1, 2, 3 };
+	static const struct bill at_1[] = { { 3, 1 } };
+	static const struct bill at_3[] = { { 2, 1 }, { 3, 2 } };
+	struct ledger ledger = ledger_of(names, COUNT(names), assets, COUNT(assets));
+	struct block old = new_book(&ledger);
+	struct block book = new_converted(old);
+
+	book_at_desks(book, &ledger, asset_desks);
+	expect_bills(book, 1, at_1, COUNT(at_1));
+	expect_bills(book, 3, at_3, COUNT(at_3));
+	free(old.bytes);
+	free(book.bytes);
+}
+
+/* A longer buffer: the bytes behind the bills stay as they were. An empty one may have no address. */
+static void
+bills_in_other_buffers(void)
+{
+	struct block schedule = new_schedule();
+	struct block book = new_book(&empty_ledger);
+	struct block bills = new_block(WEIGHTROSE_BILLS_SIZE + 9);
+	uint64_t answer;
+	size_t i;
+
+	memset(bills.bytes, 0xa5, bills.length);
+	answer = weightrose_bills(schedule.bytes, schedule.length, book.bytes, book.length, 437,
+				  bills.bytes, bills.length);
+	expect(answer == WEIGHTROSE_BILLS_SIZE, "C-14: an empty book was not billed");
+	for (i = 0; i < bills.length; i++)
+		expect(bills.bytes[i] == (i < WEIGHTROSE_BILLS_SIZE ? 0 : 0xa5),
+		       "C-14: a byte of an empty book's bills, or behind them");
+	expect(weightrose_refusal_of(weightrose_bills(schedule.bytes, schedule.length, book.bytes,
+						      book.length, 437, NULL, 0)) ==
+	       WEIGHTROSE_BUFFER_SHORT, "C-14: no buffer at all");
+	expect(weightrose_refusal_of(weightrose_bills(NULL, 0, NULL, 0, UINT64_MAX, NULL, 0)) ==
+	       WEIGHTROSE_SCHEDULE_LENGTH, "C-14: nothing at all");
+	free(schedule.bytes);
+	free(book.bytes);
+	free(bills.bytes);
+}
+
 static void
 published_into_too_little(void)
 {
@@ -748,6 +945,9 @@ main(void)
 	specialist_fund();
 	desks();
 	many_mitigants();
+	bills_by_desk();
+	bills_rounded();
+	bills_in_other_buffers();
 	published_into_too_little();
 	printf("ledger: %d failures\n", failures);
 	return failures ? EXIT_FAILURE : EXIT_SUCCESS;

@@ -1,7 +1,8 @@
-//! What the documents' cases ask of the library: a report by its fields, or a refusal.
+//! What the documents' cases ask of the library: a report by its fields, bills by desk, or a
+//! refusal.
 
 use crate::raw::RawBook;
-use crate::weightrose::{self, Answer, Refusal, HEADER, LARGEST_REPORT, LINE};
+use crate::weightrose::{self, Answer, Refusal, BILLS, HEADER, LARGEST_REPORT, LINE};
 
 pub struct Report {
     pub bytes: Vec<u8>,
@@ -95,4 +96,31 @@ pub fn refusal(schedule: &[u8], book: &[u8], room: usize) -> Refusal {
 /// The refusal of a book under the published schedule.
 pub fn refused_book(book: &RawBook) -> Refusal {
     refusal(&weightrose::published(), &book.bytes(), LARGEST_REPORT)
+}
+
+/// The bills that are not 0 of a book that is accepted, each with its desk, under a schedule.
+pub fn bills_under(schedule: &[u8], book: &RawBook, rate: u64) -> Vec<(u8, u64)> {
+    let mut buffer = [0xa5; BILLS];
+    match weightrose::bills(schedule, &book.bytes(), rate, &mut buffer) {
+        Answer::Written(length) => assert_eq!(length, BILLS),
+        Answer::Refused(refusal) => panic!("{refusal:?}"),
+    }
+    let bills = (0..=255).map(|desk| (desk, weightrose::bill(&buffer, desk)));
+    bills.filter(|&(_, bill)| bill > 0).collect()
+}
+
+/// The same under the published schedule.
+pub fn bills(book: &RawBook, rate: u64) -> Vec<(u8, u64)> {
+    bills_under(&weightrose::published(), book, rate)
+}
+
+/// The refusal of bills with a buffer of that length, which must stay as it was.
+pub fn not_billed(schedule: &[u8], book: &[u8], rate: u64, room: usize) -> Refusal {
+    let mut buffer = vec![0xa5; room];
+    let answer = weightrose::bills(schedule, book, rate, &mut buffer);
+    assert!(buffer.iter().all(|&byte| byte == 0xa5), "a refusal changed the bills");
+    match answer {
+        Answer::Refused(refusal) => refusal,
+        Answer::Written(length) => panic!("{length} bytes were written"),
+    }
 }

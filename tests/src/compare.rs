@@ -1,8 +1,10 @@
-//! One comparison: two subjects answer the same schedule and book, each with a buffer of its own
-//! between guard bytes, and must agree on the answer and on every byte.
+//! One comparison: two subjects answer the same schedule and book, with or without a cost rate, each
+//! with a buffer of its own between guard bytes, and must agree on the answer and on every byte.
 
-use crate::inputs::{Input, Room};
+use crate::inputs::{Billing, Input, Room};
+use crate::random::Random;
 use crate::second;
+use crate::weightrose::{self, Answer, LARGEST_REPORT};
 
 /// Guard bytes on each side of a lent buffer.
 pub const GUARD: usize = 64;
@@ -35,13 +37,18 @@ pub struct Outcome {
     pub area: Vec<u8>,
 }
 
-/// The byte that stands at a place of the area before the call.
-fn filling(place: usize) -> u8 {
-    (place * 151 + 89) as u8
+/// An area of random bytes, the same for the same lengths.
+fn filled(room: usize, book: usize) -> Vec<u8> {
+    let length = room + 2 * GUARD;
+    let mut random = Random::new(room as u64, book as u64);
+    let mut area: Vec<u8> =
+        (0..length.div_ceil(8)).flat_map(|_| random.number().to_le_bytes()).collect();
+    area.truncate(length);
+    area
 }
 
 pub fn outcome(subject: Subject, input: &Input, room: usize) -> Outcome {
-    let mut area: Vec<u8> = (0..room + 2 * GUARD).map(filling).collect();
+    let mut area = filled(room, input.book.len());
     let answer = subject(&input.schedule, &input.book, &mut Lent { area: &mut area });
     Outcome { answer, area }
 }
@@ -105,9 +112,49 @@ pub fn keeps(input: &Input, new: &[u8]) -> Result<(), String> {
     Ok(())
 }
 
+/// Answers a schedule, a book and a cost rate as the library does, packed.
+pub type Biller<'a> = &'a dyn Fn(&[u8], &[u8], u64, &mut Lent) -> u64;
+
+/// Both billers on one input: what both left, or where they part.
+pub fn compare_bills(one: Biller, other: Biller, billing: &Billing) -> Result<Outcome, Difference> {
+    let Billing { input, rate } = billing;
+    compare(
+        &|schedule, book, lent| one(schedule, book, *rate, lent),
+        &|schedule, book, lent| other(schedule, book, *rate, lent),
+        input,
+    )
+}
+
+/// What bills must do, as the library has it: add up to the charge of the report times the rate,
+/// rounded down.
+pub fn adds_up(billing: &Billing, bills: &[u8]) -> Result<(), String> {
+    let Billing { input, rate } = billing;
+    let mut report = vec![0; LARGEST_REPORT];
+    if let Answer::Refused(refusal) = weightrose::report(&input.schedule, &input.book, &mut report)
+    {
+        return Err(format!("billed, and the report is refused {}", refusal.number()));
+    }
+    let charge = u64::from_le_bytes(report[64..72].try_into().unwrap());
+    let wanted = u128::from(charge) * u128::from(*rate) / 10_000;
+    let sum: u128 = (0..=255).map(|desk| u128::from(weightrose::bill(bills, desk))).sum();
+    if sum != wanted {
+        return Err(format!("the bills add up to {sum}, a charge of {charge} costs {wanted}"));
+    }
+    Ok(())
+}
+
+/// The billers.
+pub fn library_bills(schedule: &[u8], book: &[u8], rate: u64, lent: &mut Lent) -> u64 {
+    weightrose::packed_bills(schedule, book, rate, lent.buffer())
+}
+
+pub fn second_bills(schedule: &[u8], book: &[u8], rate: u64, lent: &mut Lent) -> u64 {
+    second::bills(schedule, book, rate, lent.buffer()).packed()
+}
+
 /// The converters, as subjects that read no schedule.
 pub fn library_convert(_: &[u8], book: &[u8], lent: &mut Lent) -> u64 {
-    crate::weightrose::packed_convert(book, lent.buffer())
+    weightrose::packed_convert(book, lent.buffer())
 }
 
 pub fn second_convert(_: &[u8], book: &[u8], lent: &mut Lent) -> u64 {
@@ -116,7 +163,7 @@ pub fn second_convert(_: &[u8], book: &[u8], lent: &mut Lent) -> u64 {
 
 /// The library, as a subject.
 pub fn library(schedule: &[u8], book: &[u8], lent: &mut Lent) -> u64 {
-    crate::weightrose::packed_report(schedule, book, lent.buffer())
+    weightrose::packed_report(schedule, book, lent.buffer())
 }
 
 /// The second implementation, as a subject.

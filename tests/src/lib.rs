@@ -5,7 +5,8 @@
 //! - `raw`: schedules and books by their fields, right or wrong, and their bytes
 //! - `inputs`: what the two are compared on
 //! - `compare`: one comparison, of the answer and of every byte lent
-//! - `cases`: the library's reports by their fields, for the documents' own cases
+//! - `cases`: the library's reports by their fields and its bills by desk, for the documents' own
+//!   cases
 //! - `yardstick`: another static library, where the build was given one
 
 pub mod cases;

@@ -1,4 +1,4 @@
-//! The library's three exported functions behind safe ones.
+//! The library's four exported functions behind safe ones.
 
 /// Bytes of a schedule.
 pub const SCHEDULE: usize = 122;
@@ -9,6 +9,11 @@ pub const HEADER: usize = 72;
 pub const LINE: usize = 40;
 /// Bytes of the largest report: a line for each asset and each mitigant.
 pub const LARGEST_REPORT: usize = HEADER + LINE * 2_400;
+/// The desks, 0 to 255, and the bytes of their bills, eight each.
+pub const DESKS: usize = 256;
+pub const BILLS: usize = 8 * DESKS;
+/// The most that a cost rate may be, in ten-thousandths.
+pub const MOST_COST_RATE: u64 = 1_000;
 
 mod exported {
     extern "C" {
@@ -26,6 +31,15 @@ mod exported {
             converted: *mut u8,
             converted_len: usize,
         ) -> u64;
+        pub fn weightrose_bills(
+            schedule: *const u8,
+            schedule_len: usize,
+            book: *const u8,
+            book_len: usize,
+            rate: u64,
+            bills: *mut u8,
+            bills_len: usize,
+        ) -> u64;
         pub fn weightrose_published(schedule: *mut u8, schedule_len: usize) -> u64;
     }
 }
@@ -37,9 +51,9 @@ pub enum Answer {
     Refused(Refusal),
 }
 
-/// The refusals by name, 1 to 18 in this order; 10 to 12 with the bad record's place, 17 and 18 with
+/// The refusals by name, 1 to 19 in this order; 10 to 12 with the bad record's place, 17 and 18 with
 /// the asset's. A report is checked for 1 to 13, then 17, then 14 to 16; a conversion for 5 to 13,
-/// then 17, 14, 15, 18 and 16.
+/// then 17, 14, 15, 18 and 16; bills for 1 to 13, then 17, 14, 15, 19 and 16.
 #[derive(Clone, Copy, Debug, PartialEq, Eq)]
 pub enum Refusal {
     ScheduleLength,
@@ -60,6 +74,7 @@ pub enum Refusal {
     BufferShort,
     SpecialistEntry(u16),
     ManyMitigants(u16),
+    CostRate,
 }
 
 impl Refusal {
@@ -84,6 +99,7 @@ impl Refusal {
             Refusal::BufferShort => 16,
             Refusal::SpecialistEntry(_) => 17,
             Refusal::ManyMitigants(_) => 18,
+            Refusal::CostRate => 19,
         }
     }
 
@@ -137,6 +153,7 @@ impl Answer {
             16 => Refusal::BufferShort,
             17 => Refusal::SpecialistEntry(low as u16),
             18 => Refusal::ManyMitigants(low as u16),
+            19 => Refusal::CostRate,
             _ => return None,
         };
         Some(Answer::Refused(refusal)).filter(|answer| answer.packed() == packed)
@@ -169,6 +186,23 @@ pub fn packed_convert(book: &[u8], buffer: &mut [u8]) -> u64 {
     }
 }
 
+/// The library's answer to a cost rate as it stands. After bills, the buffer starts with them.
+pub fn packed_bills(schedule: &[u8], book: &[u8], rate: u64, buffer: &mut [u8]) -> u64 {
+    // SAFETY: each pointer is that of a slice and stands beside the slice's length, and the
+    // buffer, being lent as `&mut`, is apart from the other two.
+    unsafe {
+        exported::weightrose_bills(
+            schedule.as_ptr(),
+            schedule.len(),
+            book.as_ptr(),
+            book.len(),
+            rate,
+            buffer.as_mut_ptr(),
+            buffer.len(),
+        )
+    }
+}
+
 fn unpacked(packed: u64) -> Answer {
     Answer::unpacked(packed).unwrap_or_else(|| panic!("no answer packs to {packed:#018x}"))
 }
@@ -183,6 +217,18 @@ pub fn report(schedule: &[u8], book: &[u8], buffer: &mut [u8]) -> Answer {
 /// refuses and leaves the buffer as it is.
 pub fn convert(book: &[u8], buffer: &mut [u8]) -> Answer {
     unpacked(packed_convert(book, buffer))
+}
+
+/// Writes the bills of the 256 desks at a cost rate in ten-thousandths, eight bytes each, to the
+/// front of the buffer and answers their length, or refuses and leaves the buffer as it is.
+pub fn bills(schedule: &[u8], book: &[u8], rate: u64, buffer: &mut [u8]) -> Answer {
+    unpacked(packed_bills(schedule, book, rate, buffer))
+}
+
+/// The bill of a desk.
+pub fn bill(bills: &[u8], desk: u8) -> u64 {
+    let start = 8 * usize::from(desk);
+    u64::from_le_bytes(bills[start..start + 8].try_into().unwrap())
 }
 
 /// The published schedule, for a slice that may be too short: 122, or 0 and nothing is written.

@@ -2,13 +2,18 @@
 //! much stack at most.
 
 use std::thread;
-use weightrose_tests::compare::{compare, library, library_convert, second, second_convert};
+use weightrose_tests::compare::{
+    compare, compare_bills, library, library_bills, library_convert, second, second_bills,
+    second_convert,
+};
 use weightrose_tests::inputs::{
-    largest_report_book, largest_specialist_book, lifelike, sixteen_tiers, Conversions, Inputs,
-    Parents, Shape,
+    at_desks, largest_report_book, largest_specialist_book, lifelike, sixteen_tiers, Billings,
+    Conversions, Inputs, Parents, Shape,
 };
 use weightrose_tests::random::Random;
-use weightrose_tests::weightrose::{packed_convert, packed_report, published, LARGEST_REPORT};
+use weightrose_tests::weightrose::{
+    packed_bills, packed_convert, packed_report, published, BILLS, LARGEST_REPORT,
+};
 
 /// The stack that `weightrose.h` names, and some for the thread's own frames.
 const STACK: usize = 256 * 1024;
@@ -19,10 +24,11 @@ fn threads_at_once() {
     let inputs = Inputs::new(23);
     let seeded =
         |share: usize| inputs.fixed() + share * 2_000..inputs.fixed() + (share + 1) * 2_000;
-    let conversions = Conversions::new(23);
+    let (conversions, billings) = (Conversions::new(23), Billings::new(23));
     let agrees = |number: usize| {
         compare(&library, &second, &inputs.get(number)).is_ok()
             && compare(&library_convert, &second_convert, &conversions.get(number)).is_ok()
+            && compare_bills(&library_bills, &second_bills, &billings.get(number)).is_ok()
     };
     thread::scope(|scope| {
         for share in 0..4 {
@@ -39,11 +45,16 @@ fn a_small_stack() {
         Shape { counterparties: 500, assets: 900, mitigants: 1_500, parents: Parents::Chain };
     let chain = lifelike(&mut Random::new(117, 0), &shape);
     let groups = sixteen_tiers(75, 1, 1_000);
-    for book in [largest_report_book(), largest_specialist_book(), groups, chain] {
-        let book = book.bytes();
+    for mut raw in [largest_report_book(), largest_specialist_book(), groups, chain] {
+        let book = raw.bytes();
+        at_desks(&mut Random::new(117, 0), &mut raw);
+        let billed = raw.bytes();
         let mut buffer = vec![0; LARGEST_REPORT];
         let call = move || {
             assert_eq!(packed_convert(&book, &mut buffer), book.len() as u64);
+            for book in [&book, &billed] {
+                assert_eq!(packed_bills(&published(), book, 1_000, &mut buffer), BILLS as u64);
+            }
             packed_report(&published(), &book, &mut buffer)
         };
         let thread = thread::Builder::new().stack_size(STACK + OWN_STACK).spawn(call).unwrap();

@@ -1,15 +1,18 @@
 //! Document 02's requests through the library, with their figures and both sides of each of their
 //! boundaries: C-11, specialist reinsurers; C-12, lines straight into the lent report; C-13, desks
-//! and the converter.
+//! and the converter; C-14, the bills.
 
-use weightrose_tests::cases::{refusal, refused_book, report, report_under, Report};
+use weightrose_tests::cases::{
+    bills, bills_under, not_billed, refusal, refused_book, report, report_under, Report,
+};
 use weightrose_tests::inputs::{
     largest_report_book, largest_specialist_book, sample, sixteen_tiers,
 };
 use weightrose_tests::raw::*;
 use weightrose_tests::second::rebuilt;
 use weightrose_tests::weightrose::{
-    convert, packed_report, published, Answer, Refusal, LARGEST_BOOK, LARGEST_REPORT, LINE,
+    bill, convert, packed_bills, packed_report, published, Answer, Refusal, BILLS, LARGEST_BOOK,
+    LARGEST_REPORT, LINE, MOST_COST_RATE,
 };
 
 const TOTAL: u64 = 10_000_000_000;
@@ -538,5 +541,368 @@ fn c13_any_bytes() {
         let refusal = not_converted(&old[..length], old.len());
         let wanted = if length < 40 { Refusal::BookLength } else { Refusal::BookCounts };
         assert_eq!(refusal, wanted);
+    }
+}
+
+/// A book of version 2, still without records, whose limit in tier i is 250,000,000.
+fn at_desks() -> RawBook {
+    RawBook { version: 2, ..RawBook::empty(TOTAL, BASE, 0) }
+}
+
+fn bank() -> RawCounterparty {
+    RawCounterparty { kind: 1, ..graded() }
+}
+
+fn held(desk: u8, kind: u8, counterparty: u16, value: u64) -> RawAsset {
+    RawAsset { kind, counterparty, value, desk, ..Default::default() }
+}
+
+/// One ungraded name with these desks' assets of kind 11, in this order.
+fn of_one_name(assets: &[(u8, u64)]) -> RawBook {
+    let mut book = at_desks();
+    let name = book.counterparty(RawCounterparty::default());
+    assets.iter().for_each(|&(desk, value)| book.asset(held(desk, 11, name, value), &[]));
+    book
+}
+
+/// T2 with its assets at desks 7 and 255.
+fn t2_at_desks() -> RawBook {
+    let mut book = of_one_name(&[(7, 300_000_000)]);
+    book.asset(held(255, 6, 1, 300_000_000), &[]);
+    book
+}
+
+/// Graded reinsurers, each a group of its own, with these nets at these desks.
+fn reinsurers(nets: &[(u8, u64)]) -> RawBook {
+    let mut book = at_desks();
+    for &(desk, net) in nets {
+        let name = book.counterparty(graded());
+        book.asset(RawAsset { entry: 0, desk, ..retrocession(name, 0, net) }, &[]);
+    }
+    book
+}
+
+/// "A line's unserved part is its excess."
+#[test]
+fn c14_the_cut_falls_within_a_line() {
+    let (one, other) = ((3, 150_000_000), (5, 150_000_000));
+    assert_eq!(bills(&of_one_name(&[one, other]), 1_000), [(5, 5_000_000)]);
+    assert_eq!(bills(&of_one_name(&[other, one]), 1_000), [(3, 5_000_000)]);
+    let again = of_one_name(&[one, other, one]);
+    assert_eq!(bills(&again, 1_000), [(3, 15_000_000), (5, 5_000_000)]);
+    // At the limit, and one cent of cost more.
+    assert_eq!(bills(&of_one_name(&[one, (5, 100_000_000)]), 1_000), []);
+    assert_eq!(bills(&of_one_name(&[one, (5, 100_000_009)]), 1_000), []);
+    assert_eq!(bills(&of_one_name(&[one, (5, 100_000_010)]), 1_000), [(5, 1)]);
+    // Behind the cut every line is excess, whatever its size.
+    let behind = of_one_name(&[(1, 250_000_000), (2, 10), (3, 0), (4, 300_000_000)]);
+    assert_eq!(bills(&behind, 1_000), [(2, 1), (4, 30_000_000)]);
+}
+
+/// "what stands is given to the exposure lines in book order, each asset's covered parts before its
+/// remainder": cash with the bank is in the tier of its deposits, whose limit is 5,000,000,000.
+#[test]
+fn c14_covered_parts_among_remainders() {
+    let billed = |order: [u8; 3]| {
+        let mut book = at_desks();
+        let bank = book.counterparty(bank());
+        let name = book.counterparty(RawCounterparty::default());
+        for desk in order {
+            match desk {
+                1 => book.asset(held(1, 4, bank, 4_000_000_000), &[]),
+                2 => {
+                    let cash = RawMitigant { form: 1, flags: 31, counterparty: bank, value: 0 };
+                    let parts =
+                        [500_000_000, 1_500_000_000].map(|value| RawMitigant { value, ..cash });
+                    book.asset(held(2, 11, name, 2_100_000_000), &parts);
+                }
+                _ => book.asset(held(3, 4, bank, 1_000_000_000), &[]),
+            }
+        }
+        bills(&book, 1)
+    };
+    assert_eq!(billed([1, 2, 3]), [(2, 100_000), (3, 100_000)]);
+    assert_eq!(billed([1, 3, 2]), [(2, 200_000)]);
+    assert_eq!(billed([2, 1, 3]), [(1, 100_000), (3, 100_000)]);
+    assert_eq!(billed([2, 3, 1]), [(1, 200_000)]);
+    assert_eq!(billed([3, 1, 2]), [(2, 200_000)]);
+    assert_eq!(billed([3, 2, 1]), [(1, 200_000)]);
+}
+
+/// A part and the remainder of one asset, each in a tier of its own with an excess: both are billed
+/// to the asset's desk, and neither to a desk that holds assets of the part's counterparty.
+#[test]
+fn c14_a_covered_part_goes_to_its_assets_desk() {
+    let mut book = at_desks();
+    let bank = book.counterparty(bank());
+    let name = book.counterparty(RawCounterparty::default());
+    book.asset(held(1, 4, bank, 5_000_000_000), &[]);
+    let cash = RawMitigant { form: 1, flags: 31, counterparty: bank, value: 300_000_000 };
+    book.asset(held(2, 11, name, 1_000_000_000), &[cash]);
+    book.asset(held(3, 11, name, 0), &[]);
+    // 300,000,000 of the part and 700,000,000 - 250,000,000 of the remainder.
+    assert_eq!(bills(&book, 100), [(2, 7_500_000)]);
+    assert_eq!(report(&book).charge(), 750_000_000);
+}
+
+/// "Within a group's tier": parent and child share it, other groups do not.
+#[test]
+fn c14_within_a_group() {
+    let mut book = at_desks();
+    for parent in [0, 1, 0] {
+        book.counterparty(RawCounterparty { parent, ..Default::default() });
+    }
+    for (desk, counterparty) in [(1, 2), (2, 3), (3, 1), (4, 3)] {
+        book.asset(held(desk, 11, counterparty, 200_000_000), &[]);
+    }
+    assert_eq!(bills(&book, 1_000), [(3, 15_000_000), (4, 15_000_000)]);
+    book.counterparties[1].parent = 0;
+    assert_eq!(bills(&book, 1_000), [(4, 15_000_000)]);
+    book.counterparties[2].parent = 2;
+    assert_eq!(bills(&book, 1_000), [(2, 15_000_000), (4, 20_000_000)]);
+}
+
+/// "what stands" is what the cascade leaves: T2's second tier is within its limit of 500,000,000,
+/// and has an excess of 50,000,000.
+#[test]
+fn c14_what_the_cascade_leaves() {
+    assert_eq!(bills(&t2_at_desks(), 1_000), [(7, 5_000_000), (255, 5_000_000)]);
+    // Tiers 0 and 2 are served apart, though desk 9 holds the first asset of either.
+    let mut book = of_one_name(&[(9, 260_000_000)]);
+    book.asset(held(9, 6, 1, 10_000_000), &[]);
+    book.asset(held(8, 11, 1, 10_000_000), &[]);
+    book.asset(held(7, 6, 1, 245_000_000), &[]);
+    assert_eq!(bills(&book, 1_000), [(7, 500_000), (8, 1_000_000), (9, 1_000_000)]);
+}
+
+/// "as does every line of a version 1 book"; a converted one is billed the same.
+#[test]
+fn c14_a_version_1_book_goes_to_desk_0() {
+    let old = RawBook { version: 1, ..t2_at_desks() };
+    assert_eq!(bills(&old, 1_000), [(0, 10_000_000)]);
+    let mut buffer = [0; BILLS];
+    assert_eq!(packed_bills(&published(), &converted(&old), 1_000, &mut buffer), BILLS as u64);
+    assert_eq!(bill(&buffer, 0), 10_000_000);
+    // 256 mitigants: byte 7 is 1, and no desk.
+    let many = with_mitigants(256);
+    assert_eq!(many.bytes()[40 + 8 + 48 + 6..][..2], [0, 1]);
+    assert_eq!(report(&many).charge(), 349_743_000);
+    assert_eq!(bills(&many, 1_000), [(0, 34_974_300)]);
+}
+
+/// "The A3 excess goes to desk 0": T8's is 250,000,000, beside 100,000,000 of each reinsurer.
+#[test]
+fn c14_the_a3_excess_goes_to_desk_0() {
+    let t8 = reinsurers(&[(10, 600_000_000), (20, 600_000_000), (255, 600_000_000)]);
+    assert_eq!(bills(&t8, 1), [(0, 25_000), (10, 10_000), (20, 10_000), (255, 10_000)]);
+    let of_desk_0 = reinsurers(&[(0, 600_000_000), (20, 600_000_000), (0, 600_000_000)]);
+    assert_eq!(bills(&of_desk_0, 1), [(0, 45_000), (20, 10_000)]);
+    // Within the limits of tiers and groups, and one cent over that of A3.
+    let most = [(1, 500_000_000), (2, 500_000_000), (3, 250_000_000)];
+    assert_eq!(bills(&reinsurers(&most), 1_000), []);
+    let over = [(1, 500_000_000), (2, 500_000_000), (3, 250_000_010)];
+    assert_eq!(bills(&reinsurers(&over), 1_000), [(0, 1)]);
+    assert_eq!(bills(&RawBook { version: 1, ..t8 }, 1), [(0, 55_000)]);
+}
+
+/// "the running excess times the rate, rounded down, less the same figure before that desk".
+#[test]
+fn c14_rounding() {
+    let behind_the_limit = |excesses: &[(u8, u64)], rate| {
+        let assets = [&[(9, 250_000_000)], excesses].concat();
+        bills(&of_one_name(&assets), rate)
+    };
+    // Bill by bill both would be 0.
+    assert_eq!(behind_the_limit(&[(1, 5_000), (2, 5_000)], 1), [(2, 1)]);
+    assert_eq!(behind_the_limit(&[(2, 5_000), (1, 5_000)], 1), [(2, 1)]);
+    assert_eq!(behind_the_limit(&[(1, 5_000), (2, 4_999)], 1), []);
+    assert_eq!(behind_the_limit(&[(1, 3_333), (2, 3_333), (3, 3_334)], 1), [(3, 1)]);
+    // 0.9999, 1.9998 and 3 cents; bill by bill 0, 0 and 1.
+    assert_eq!(behind_the_limit(&[(1, 3_333), (2, 3_333), (3, 3_334)], 3), [(2, 1), (3, 2)]);
+    // From desk 0 on, whatever the order of the book: 1.5 and 2.4, not 0.9 and 2.4.
+    assert_eq!(behind_the_limit(&[(200, 9_000), (100, 15_000)], 1), [(100, 1), (200, 1)]);
+    assert_eq!(behind_the_limit(&[(100, 9_000), (200, 15_000)], 1), [(200, 2)]);
+    // A3's 4,999 and 5,001 of desk 0's own make one cent together, and with desk 1's they do there.
+    let with_a3 =
+        |desk| bills(&reinsurers(&[(desk, 500_005_001), (30, 500_000_000), (30, 250_004_999)]), 1);
+    assert_eq!(with_a3(0), [(0, 1)]);
+    assert_eq!(with_a3(1), [(1, 1)]);
+}
+
+/// "The cost rate is in ten-thousandths, up to 1,000": "19 when the rate exceeds 1,000".
+#[test]
+fn c14_rates() {
+    let book = t2_at_desks();
+    assert_eq!(MOST_COST_RATE, 1_000);
+    assert_eq!(bills(&book, 0), []);
+    for rate in [1, 2, 437, 999, 1_000] {
+        assert_eq!(bills(&book, rate), [(7, 5_000 * rate), (255, 5_000 * rate)]);
+    }
+    let bits = (16..64).flat_map(|bit| [1 << bit, (1 << bit) + 1_000]);
+    for rate in [1_001, 1_002, 10_000, u64::MAX - 1, u64::MAX].into_iter().chain(bits) {
+        for room in [BILLS, BILLS - 1, 0] {
+            assert_eq!(not_billed(&published(), &book.bytes(), rate, room), Refusal::CostRate);
+        }
+    }
+}
+
+/// Desk 255 has the last eight bytes; 250 lines of 1,000,000 stand.
+#[test]
+fn c14_all_desks() {
+    let assets: Vec<(u8, u64)> = (0..=255).map(|desk| (desk, 1_000_000)).collect();
+    let billed: Vec<(u8, u64)> = (250..=255).map(|desk| (desk, 100_000)).collect();
+    assert_eq!(bills(&of_one_name(&assets), 1_000), billed);
+    let turned: Vec<(u8, u64)> = assets.iter().rev().copied().collect();
+    let billed: Vec<(u8, u64)> = (0..=5).map(|desk| (desk, 100_000)).collect();
+    assert_eq!(bills(&of_one_name(&turned), 1_000), billed);
+    let last = of_one_name(&[(0, 250_000_000), (255, 0x01_0203_0405 * 10)]);
+    let mut buffer = [0xa5; BILLS];
+    assert_eq!(packed_bills(&published(), &last.bytes(), 1_000, &mut buffer), BILLS as u64);
+    assert_eq!(buffer[BILLS - 8..], [5, 4, 3, 2, 1, 0, 0, 0]);
+    assert!(buffer[..BILLS - 8].iter().all(|&byte| byte == 0));
+}
+
+/// What has no limit, and what is linked, is in no tier: nothing of it is billed, and nothing of
+/// what stands is given to it.
+#[test]
+fn c14_nothing_without_a_limit_is_billed() {
+    let mut book = at_desks();
+    let home = book.counterparty(RawCounterparty { kind: 2, ..Default::default() });
+    let life = book.counterparty(RawCounterparty { kind: 4, flags: 1, ..graded() });
+    let cash = RawMitigant { form: 1, flags: 31, counterparty: home, value: MOST };
+    book.asset(held(1, 1, home, MOST), &[]);
+    book.asset(held(2, 2, life, MOST), &[]);
+    book.asset(RawAsset { flags: 1, ..held(3, 11, home, MOST) }, &[cash]);
+    let security = RawMitigant { form: 2, ..cash };
+    book.asset(held(4, 11, life, MOST), &[security]);
+    assert_eq!(bills(&book, 1_000), []);
+    book.asset(held(5, 11, home, 250_000_010), &[]);
+    assert_eq!(bills(&book, 1_000), [(5, 1)]);
+}
+
+/// "The bills must add up to the charge times the rate, rounded down, to the cent", whatever the
+/// desks.
+#[test]
+fn c14_the_bills_add_up() {
+    let largest = [largest_report_book(), largest_specialist_book()];
+    let groups = [sixteen_tiers(1, 100, 1_000), sixteen_tiers(75, MOST / 825, MOST)];
+    let published = published();
+    let nothing_stands =
+        RawSchedule { rows: [RawRow { rates: [0; 3], fixed: 0 }; 8], ..RawSchedule::published() };
+    for book in largest.into_iter().chain(groups).chain([sample(), t2_at_desks()]) {
+        for schedule in [&published[..], &nothing_stands.bytes()] {
+            let charge = report_under(schedule, &book).charge();
+            for (desks, rate) in [(256, 1), (256, 999), (100, 1_000), (7, 333), (1, 1_000)] {
+                let mut book = RawBook { version: 2, ..book.clone() };
+                for (place, asset) in book.assets.iter_mut().enumerate() {
+                    asset.desk = (place * 11 % desks) as u8;
+                }
+                let sum: u64 =
+                    bills_under(schedule, &book, rate).iter().map(|&(_, bill)| bill).sum();
+                assert_eq!(u128::from(sum), u128::from(charge) * u128::from(rate) / 10_000);
+            }
+        }
+    }
+}
+
+/// 900 assets of M with one name: the largest charge, at the largest rate.
+#[test]
+fn c14_the_largest_bills() {
+    let mut book = RawBook { version: 2, ..RawBook::empty(MOST, 0, 0) };
+    let name = book.counterparty(RawCounterparty::default());
+    (0..900u16).for_each(|number| book.asset(held(number as u8, 11, name, MOST), &[]));
+    assert_eq!(report(&book).charge(), 900 * MOST - MOST / 40);
+    // Desks 0 to 131 have four of them, the others three; M / 40 stands, at desk 0.
+    let bill = |desk: u8| match desk {
+        0 => 4 * MOST / 10 - MOST / 400,
+        1..=131 => 4 * MOST / 10,
+        _ => 3 * MOST / 10,
+    };
+    let wanted: Vec<(u8, u64)> = (0..=255).map(|desk| (desk, bill(desk))).collect();
+    assert_eq!(bills(&book, 1_000), wanted);
+    book.version = 1;
+    assert_eq!(bills(&book, 1_000), [(0, 90 * MOST - MOST / 400)]);
+}
+
+/// "They are 256 amounts of eight bytes, and 16 compares that length": no other byte is written,
+/// and what was there before does not matter.
+#[test]
+fn c14_the_buffer() {
+    assert_eq!(BILLS, 2_048);
+    for book in [RawBook::empty(TOTAL, BASE, 0), t2_at_desks(), largest_report_book()] {
+        let bytes = book.bytes();
+        let mut wanted = [0; BILLS];
+        assert_eq!(packed_bills(&published(), &bytes, 1_000, &mut wanted), BILLS as u64);
+        for room in (0..BILLS).step_by(89).chain(BILLS - 10..BILLS) {
+            assert_eq!(not_billed(&published(), &bytes, 1_000, room), Refusal::BufferShort);
+        }
+        for filling in [0x00, 0xff, 0x5a] {
+            for (start, behind) in [(0, 0), (1, 1), (3, 7), (7, 8), (5, 9), (2, 100_000)] {
+                let end = start + BILLS;
+                let mut area = vec![filling; end + behind + 1];
+                let lent = &mut area[start..end + behind];
+                assert_eq!(packed_bills(&published(), &bytes, 1_000, lent), BILLS as u64);
+                assert!(area[start..end] == wanted);
+                assert!(area[..start].iter().chain(&area[end..]).all(|&byte| byte == filling));
+            }
+        }
+    }
+}
+
+/// 16, 19, 15, 14, 17, 13, then 12 to 1: each fault is put before those that are there already.
+#[test]
+fn c14_refusals_in_their_order() {
+    let mut schedule = published().to_vec();
+    let mut book = RawBook { version: 2, ..specialist(5, 0) };
+    book.counterparty(graded());
+    let cash = RawMitigant { form: 1, flags: 31, counterparty: 1, value: 1 };
+    book.asset(retrocession(1, 0, 5), &[cash]);
+    let refused = |schedule: &[u8], book: &RawBook, rate| {
+        not_billed(schedule, &book.bytes(), rate, BILLS - 1)
+    };
+    assert_eq!(refused(&schedule, &book, 1_000), Refusal::BufferShort);
+    let rate = 1_001;
+    assert_eq!(refused(&schedule, &book, rate), Refusal::CostRate);
+    type Fault = (fn(&mut RawBook), Refusal);
+    let faults: [Fault; 11] = [
+        (|book| book.excluded = 6, Refusal::StressedAssets),
+        (|book| book.total = 4, Refusal::ReinsuranceValues),
+        (|book| book.specialist = 0, Refusal::SpecialistEntry(1)),
+        (|book| book.assets[0].mitigants = 2, Refusal::MitigantCounts),
+        (|book| book.mitigants[0].form = 6, Refusal::Mitigant(1)),
+        (|book| book.assets[0].kind = 12, Refusal::Asset(1)),
+        (|book| book.counterparties[0].parent = 1, Refusal::Counterparty(1)),
+        (|book| book.excluded = MOST + 1, Refusal::BookAmounts),
+        (|book| book.counts = Some([1, 901, 1]), Refusal::BookCounts),
+        (|book| book.version = 3, Refusal::BookVersion),
+        (|book| book.specialist = 2, Refusal::BookMark),
+    ];
+    for (fault, wanted) in faults {
+        fault(&mut book);
+        assert_eq!(refused(&schedule, &book, rate), wanted);
+    }
+    let short = &book.bytes()[..39];
+    assert_eq!(not_billed(&schedule, short, rate, 0), Refusal::BookLength);
+    for (place, byte, wanted) in [
+        (6, 101, Refusal::ScheduleRates),
+        (4, 2, Refusal::ScheduleVersion),
+        (3, 1, Refusal::ScheduleMark),
+    ] {
+        schedule[place] = byte;
+        assert_eq!(not_billed(&schedule, short, rate, 0), wanted);
+    }
+    assert_eq!(not_billed(&schedule[..121], short, rate, 0), Refusal::ScheduleLength);
+    assert_eq!(not_billed(&[], &[], u64::MAX, 0), Refusal::ScheduleLength);
+}
+
+/// Every byte string gets the report's own refusal: books cut off anywhere.
+#[test]
+fn c14_any_bytes() {
+    let book = t2_at_desks().bytes();
+    for length in 0..book.len() {
+        let wanted = refusal(&published(), &book[..length], LARGEST_REPORT);
+        for rate in [0, 1_001] {
+            assert_eq!(not_billed(&published(), &book[..length], rate, BILLS), wanted);
+        }
     }
 }

@@ -2,16 +2,20 @@
 //! a library, is caught by it.
 
 use weightrose_tests::compare::{
-    compare, library, library_convert, second, second_convert, Lent, Subject, GUARD,
+    adds_up, compare, compare_bills, library, library_bills, library_convert, outcome, second,
+    second_bills, second_convert, Biller, Lent, Subject, GUARD,
 };
-use weightrose_tests::inputs::{sample, Conversions, Input, Inputs};
+use weightrose_tests::inputs::{sample, Billings, Conversions, Input, Inputs};
 use weightrose_tests::raw::RawSchedule;
-use weightrose_tests::second::{convert_by, report_by, Slip};
-use weightrose_tests::weightrose::{report, Answer, Refusal, HEADER, LARGEST_REPORT, LINE};
+use weightrose_tests::second::{bills_by, convert_by, report_by, Slip};
+use weightrose_tests::weightrose::{
+    bill, report, Answer, Refusal, BILLS, HEADER, LARGEST_REPORT, LINE,
+};
 
 const SEED: u64 = 117;
 const SEEDED: usize = 20_000;
 const SEEDED_CONVERSIONS: usize = 10_000;
+const SEEDED_BILLINGS: usize = 20_000;
 
 /// The first seeded input on which a subject parts from the library.
 fn caught(inputs: &Inputs, subject: Subject) -> Option<usize> {
@@ -28,7 +32,7 @@ fn each_slip_is_caught() {
         };
         caught(&inputs, &wrong).is_none()
     };
-    let of_report = Slip::ALL.iter().copied().filter(|slip| !slip.of_converter());
+    let of_report = Slip::ALL.iter().copied().filter(|slip| slip.of_report());
     let missed: Vec<Slip> = of_report.filter(passes).collect();
     assert!(missed.is_empty(), "not caught: {missed:?}");
 }
@@ -94,11 +98,121 @@ fn bytes_converted_out_of_place_are_caught() {
     assert!(caught_converting(&inputs, nothing).is_some());
 }
 
+/// The first seeded input of the bills on which a biller parts from the library.
+fn caught_billing(inputs: &Billings, biller: Biller) -> Option<usize> {
+    let mut seeded = inputs.fixed()..inputs.fixed() + SEEDED_BILLINGS;
+    seeded.find(|&number| compare_bills(&library_bills, biller, &inputs.get(number)).is_err())
+}
+
+/// C-14: those of the bills, and those of the report that reach a bill.
+#[test]
+fn each_slip_of_the_bills_is_caught() {
+    let inputs = Billings::new(SEED);
+    let passes = |slip: &Slip| {
+        let wrong = |schedule: &[u8], book: &[u8], rate, lent: &mut Lent| {
+            bills_by(slip, schedule, book, rate, lent.buffer()).packed()
+        };
+        caught_billing(&inputs, &wrong).is_none()
+    };
+    let reaches = |slip: &Slip| slip.of_bills() || slip.of_report() && !slip.of_report_alone();
+    let missed: Vec<Slip> = Slip::ALL.iter().copied().filter(reaches).filter(passes).collect();
+    assert!(missed.is_empty(), "not caught: {missed:?}");
+}
+
+/// C-14: bytes that bills could leave or change, and bills that look right from afar.
+#[test]
+fn bills_out_of_place_are_caught() {
+    type Spoil = fn(&[u8], &mut [u8]);
+    let slips: [(&str, Spoil); 8] = [
+        ("a byte after the bills", |_, lent| {
+            lent.iter_mut().skip(BILLS).take(1).for_each(|byte| *byte ^= 1);
+        }),
+        ("the last byte left as it was", |before, lent| lent[BILLS - 1] = before[BILLS - 1]),
+        ("the last bill left as it was", |before, lent| {
+            lent[BILLS - 8..BILLS].copy_from_slice(&before[BILLS - 8..BILLS]);
+        }),
+        ("bills of 0 left as they were", |before, lent| {
+            for (bill, before) in lent[..BILLS].chunks_mut(8).zip(before.chunks(8)) {
+                if bill == [0; 8] {
+                    bill.copy_from_slice(before);
+                }
+            }
+        }),
+        ("bytes in the other order", |_, lent| {
+            lent[..BILLS].chunks_mut(8).for_each(<[u8]>::reverse);
+        }),
+        ("bills from desk 1 on", |_, lent| lent[..BILLS].rotate_right(8)),
+        ("all to desk 0", |_, lent| {
+            let sum: u64 = (0..=255).map(|desk| bill(lent, desk)).sum();
+            lent[..BILLS].fill(0);
+            lent[..8].copy_from_slice(&sum.to_le_bytes());
+        }),
+        ("the bills left as they were", |before, lent| lent.copy_from_slice(before)),
+    ];
+    let inputs = Billings::new(SEED);
+    for (name, spoil) in slips {
+        let wrong: Biller = &|schedule, book, rate, lent| {
+            let before = lent.buffer().to_vec();
+            let packed = second_bills(schedule, book, rate, lent);
+            if packed >> 32 == 0 {
+                spoil(&before, lent.buffer());
+            }
+            packed
+        };
+        assert!(caught_billing(&inputs, wrong).is_some(), "{name} was not caught");
+    }
+    let by_refusal: Biller = &|schedule, book, rate, lent| {
+        let packed = second_bills(schedule, book, rate, lent);
+        if packed >> 32 != 0 {
+            lent.buffer().iter_mut().take(1).for_each(|byte| *byte ^= 1);
+        }
+        packed
+    };
+    assert!(caught_billing(&inputs, by_refusal).is_some());
+    for refusal in [Refusal::CostRate, Refusal::BufferShort] {
+        let refused: Biller = &|_, _, _, _| Answer::Refused(refusal).packed();
+        assert!(caught_billing(&inputs, refused).is_some());
+    }
+}
+
+/// C-14: "The bills must add up": bills that do not are seen by the library's own report.
+#[test]
+fn bills_that_do_not_add_up_are_caught() {
+    let inputs = Billings::new(SEED);
+    let wrong_sum = |slip: Slip| {
+        (inputs.fixed()..inputs.fixed() + SEEDED_BILLINGS).any(|number| {
+            let billing = inputs.get(number);
+            let wrong: Subject = &|schedule, book, lent| {
+                bills_by(&slip, schedule, book, billing.rate, lent.buffer()).packed()
+            };
+            let outcome = outcome(wrong, &billing.input, BILLS);
+            outcome.answer == BILLS as u64
+                && adds_up(&billing, &outcome.area[GUARD..GUARD + BILLS]).is_err()
+        })
+    };
+    for slip in [
+        Slip::EachBillRoundedByItself,
+        Slip::A3ExcessForgotten,
+        Slip::A3CostRoundedApart,
+        Slip::CostRoundedUp,
+        Slip::StandsUpToItsLimit,
+        Slip::LinkedAssetsServed,
+        Slip::Desk255LeftOut,
+    ] {
+        assert!(wrong_sum(slip), "{slip:?}");
+    }
+    // The sum alone would not show these: they are caught by the second implementation.
+    for slip in [Slip::DesksNotRead, Slip::ServedFromTheLastAsset, Slip::RoundingLeftToDesk0] {
+        assert!(!wrong_sum(slip), "{slip:?}");
+    }
+}
+
 #[test]
 fn the_right_one_is_not_caught() {
     let inputs = Inputs::new(SEED);
     assert_eq!(caught(&inputs, &second), None);
     assert_eq!(caught_converting(&Conversions::new(SEED), &second_convert), None);
+    assert_eq!(caught_billing(&Billings::new(SEED), &second_bills), None);
 }
 
 /// A subject that answers as the second implementation and then spoils what it lent.

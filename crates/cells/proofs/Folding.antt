@@ -12,7 +12,7 @@ use Rattle.words.specs.Words.{_=?_, if_then_else_, sum}
 use Rattle.cascade.specs.Cascade.{tiers}
 use Rattle.rows.specs.Rows.{columns, noLimitColumn, billColumn, a3Columns}
 use Rattle.columns.specs.Column.{a3Column, columnBy}
-use Rattle.cells.specs.Ranges.{sum-next, sum-within}
+use Rattle.words.specs.Ranges.{sum-next, sum-within}
 use Rattle.cells.specs.Cells.{apart, folded, rowAt, columnSum, FoldedRow, FoldFits, FoldedRows, Folded}
 
 -- ---- one row

@@ -4,7 +4,6 @@
 --   adding-start adding-step adding-room adding-end    laws of it
 --   gate-le amount-le          what passes a test is no more than all
 --   amount-none                where nothing passes
---   sum-agree                  two sums that agree on every element
 --   sum-join                   two sums together, the second only where a test fails
 use mathlib.Core.Bool.{Bool, true, false}
 use mathlib.Core.List.{List, [], _∷_}
@@ -15,7 +14,7 @@ use lib.Dec.{eqb}
 use lib.ListN.{length, getD, set, length-set}
 use lib.Seq.{getD-set-same, getD-set-other}
 use borrow.Author.Tests.{eq-eqb, eqb-true, eqb-false}
-use Rattle.words.specs.Words.{_=?_, if_then_else_, sumOf, All}
+use Rattle.words.specs.Words.{_=?_, if_then_else_, sumOf}
 use Rattle.words.specs.Choice.{if-le}
 use Rattle.words.specs.Sums.{sum-most}
 use Rattle.exposure.specs.declared.Exposure.{Exposure}
@@ -68,11 +67,6 @@ pub amount-none : (test : Exposure → Bool) → ((x : Exposure) → test x ≡ 
 unfolding amountOf sumOf
 amount-none test h [] = refl
 amount-none test h (x ∷ xs) = rw (h x) (omega (arith, amount-none test h xs))
-
-pub sum-agree : (f g : Exposure → ℕ) (xs : List Exposure) → All (λ x. f x ≡ g x) xs → sumOf f xs ≡ sumOf g xs
-unfolding sumOf
-sum-agree f g [] h = refl
-sum-agree f g (x ∷ xs) h = rw (h .0, sum-agree f g xs (h .1))
 
 pub sum-join : (t : Bool) (f g : Exposure → ℕ) (xs : List Exposure) → sumOf f xs + (if t then 0 else sumOf g xs) ≡ sumOf (λ x. f x + (if t then 0 else g x)) xs
 unfolding sumOf

@@ -29,7 +29,7 @@ use Rattle.parties.specs.Rows.{topsTo, rowOf, Parties}
 use Rattle.parties.specs.RowLaws.{top-self, same-row, row-small}
 use Rattle.assets.specs.Shares.{restOf}
 use Rattle.covering.specs.Pass.{Covers}
-use Rattle.covering.specs.ByPlace.{partsAt, restsAt, by-place}
+use Rattle.covering.specs.ByPlace.{partsAt, restsAt, parted, by-place}
 use Rattle.cells.specs.Cells.{columnAt, cellOf, Rowed, Placed, Tabled}
 use Rattle.assets.specs.Assets.{restCell}
 
@@ -68,7 +68,7 @@ pub tabled : {b covered₀ caps₀ rests₀ covered caps rests : List ℕ} → A
 tabled acc lc lr nets c = record {
   covered-size = rw (c .parts, length-sets) lc;
   rests-size = rw (c .remainders, length-sets) lr;
-  sums = by-place acc lc lr nets c;
+  sums = by-place _ _ _ acc (parted acc lc lr nets c);
 }
 
 -- ---- a cell

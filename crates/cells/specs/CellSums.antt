@@ -17,7 +17,7 @@ use borrow.Author.Tests.{eqb-true, ltb-true}
 use Rattle.words.specs.Words.{_=?_, _<?_, if_then_else_, sumOf, sum, All}
 use Rattle.words.specs.Choice.{both, by-test}
 use Rattle.words.specs.Below.{allBelow, below}
-use Rattle.words.specs.Sums.{sum-same, sum-swap, sum-once, sum-each-same, all-map}
+use Rattle.words.specs.Sums.{sum-same, sum-swap, sum-once, sum-agree, sum-each-same, all-map}
 use Rattle.wire.specs.Bytes.{M}
 use Rattle.cascade.specs.Cascade.{tiers}
 use Rattle.book.specs.Records.{C, N, K, counterpartyAt}
@@ -35,8 +35,8 @@ use Rattle.parties.specs.RowLaws.{row-small}
 use Rattle.covering.specs.ByPlace.{partsAt, restsAt}
 use Rattle.covering.specs.Bounds.{all-le}
 use Rattle.cells.specs.Cells.{columnAt, cellOf, apart, folded, rowAt, columnSum, Tabled, Zeros}
-use Rattle.cells.specs.Ranges.{sum-here}
-use Rattle.cells.specs.Adding.{inCell, Adding, adding-end, gate-le, amount-le, sum-agree, sum-join}
+use Rattle.words.specs.Ranges.{sum-here}
+use Rattle.cells.specs.Adding.{inCell, Adding, adding-end, gate-le, amount-le, sum-join}
 use Rattle.cells.specs.CellLaws.{Inside, part-inside, rest-inside, cell-parts, cell-group}
 
 -- every exposure of the book has been added to its cell

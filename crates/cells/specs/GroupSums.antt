@@ -31,7 +31,7 @@ use Rattle.parties.specs.Rows.{topsTo, headed}
 use Rattle.parties.specs.RowLaws.{top-alone, tops-le, headed-length, head-is, head-row}
 use Rattle.covering.specs.Bounds.{all-le}
 use Rattle.cells.specs.declared.Sums.{Sums}
-use Rattle.cells.specs.Ranges.{sum-zero}
+use Rattle.words.specs.Ranges.{sum-zero}
 use Rattle.cells.specs.Adding.{amount-none}
 use Rattle.cells.specs.Cells.{rowAt, Posted}
 

@@ -1,5 +1,4 @@
 pub mod Cells
-pub mod Ranges
 pub mod Adding
 pub mod CellLaws
 pub mod CellSums

@@ -1,6 +1,8 @@
 -- The exposures of a book out of the tables by place: a covered part's counterparty and kind come from its mitigant, a remainder's from its asset.
---   partsAt restsAt    the covered parts at mitigants' places, the remainders at assets' places
---   by-place           every sum over a book's exposures is the sum over these
+--   partsAt restsAt      the covered parts at mitigants' places, the remainders at assets' places
+--   Parted PartedFrom    an asset's exposures are those at its places, in order; so for assets from a place on
+--   parted               of the tables that the pass over the mitigants leaves
+--   by-place             every sum over a book's exposures is the sum over the tables
 use mathlib.Core.Bool.{Bool, true, false}
 use mathlib.Core.List.{List, [], _∷_, _++_}
 use mathlib.Core.Path.{_≡_, refl, _∙_}
@@ -9,7 +11,7 @@ use native.Mathlib.Numerals.{add-one}
 use native.Mathlib.Omega.{arith}
 use lib.ListN.{length, getD, set, length-set}
 use lib.Seq.{sets, getD-set-same, getD-set-other}
-use Rattle.words.specs.Words.{sumOf, eachOf}
+use Rattle.words.specs.Words.{sumOf, eachOf, All}
 use Rattle.words.specs.Sums.{sum-append}
 use Rattle.book.specs.declared.Asset.{Asset}
 use Rattle.book.specs.Records.{N, K, counterpartyAt, assetAt, mitigantAt}
@@ -20,7 +22,7 @@ use Rattle.book.specs.Accepted.{Accepted}
 use Rattle.exposure.specs.declared.Exposure.{Exposure}
 use Rattle.exposure.specs.Values.{net}
 use Rattle.exposure.specs.Parts.{covers, mayBeCovered, coveredPart, remainder, partsOf, exposuresOf, exposures}
-use Rattle.exposure.specs.PartLaws.{covers-le}
+use Rattle.exposure.specs.PartLaws.{covers-le, linked-none}
 use Rattle.assets.specs.Shares.{restOf, capOf}
 use Rattle.covering.specs.Covered.{coveredBy, coveredOf, together, drawnBy, leftFrom, heldBy, holdingAt, covered-length, covered-size, left-size}
 use Rattle.covering.specs.Pass.{Covers}
@@ -36,6 +38,17 @@ partsAt b covered place (suc more) =
 unfoldable pub restsAt : List ℕ → List ℕ → ℕ → ℕ → List Exposure
 restsAt b rests place zero = []
 restsAt b rests place (suc more) = remainder (assetAt b place) (getD rests place 0) ∷ restsAt b rests (place + 1) more
+
+-- the asset at a place, whose first mitigant is the one at `first`: its covered parts in order and then its remainder; nothing where it is linked
+pub record Parted (b covered rests : List ℕ) (place first : ℕ) : Type 0 where
+  pub parts : linked (assetAt b place) ≡ false
+      → exposuresOf (counterpartyAt b) (holdingAt b place first) ≡ partsAt b covered first (assetAt b place .count) ++ (remainder (assetAt b place) (getD rests place 0) ∷ [])
+  pub none : linked (assetAt b place) ≡ true → All (λ x. x .amount ≡ 0) (partsAt b covered first (assetAt b place .count)) × (getD rests place 0 ≡ 0)
+
+-- `more` assets from a place on
+abbrev pub PartedFrom : List ℕ → List ℕ → List ℕ → ℕ → ℕ → ℕ → Type 0
+PartedFrom b covered rests place first zero = Unit {0}
+PartedFrom b covered rests place first (suc more) = Parted b covered rests place first × PartedFrom b covered rests (place + 1) (first + assetAt b place .count) more
 
 -- ---- a table that holds a list from a place on
 
@@ -63,17 +76,75 @@ holds-rest (x ∷ xs) ys t i n e h = holds-rest xs ys t (i + 1) n (omega arith) 
 
 -- ---- an asset, assets, a book
 
-module _ (b : List ℕ) (f : Exposure → ℕ) (none : (x : Exposure) → x .amount ≡ 0 → f x ≡ 0) where
+module _ (b : List ℕ) where
   -- an asset's covered parts, and `last`, what they leave of it
-  parts-split : (t : List ℕ) (a : Asset) (n m still rest last : ℕ)
+  parts-are : (t : List ℕ) (a : Asset) (n m still rest last : ℕ)
       → last ≡ rest - together (coveredBy (counterpartyAt b) a (mitigantsFrom b m n) still)
       → Holds t m (coveredBy (counterpartyAt b) a (mitigantsFrom b m n) still)
-      → sumOf f (partsOf (counterpartyAt b) a (mitigantsFrom b m n) still rest) ≡ sumOf f (partsAt b t m n) + f (remainder a last)
+      → partsOf (counterpartyAt b) a (mitigantsFrom b m n) still rest ≡ partsAt b t m n ++ (remainder a last ∷ [])
   unfolding partsOf partsAt mitigantsFrom coveredBy sumOf
-  parts-split t a zero m still rest last e h = let d : last ≡ rest = omega arith in rw d (omega arith)
-  parts-split t a (suc n) m still rest last e h =
+  parts-are t a zero m still rest last e h = let d : last ≡ rest = omega arith in rw d
+  parts-are t a (suc n) m still rest last e h =
       let part = covers a (mitigantAt b m) (counterpartyAt b (mitigantAt b m .counterparty)) still in
-      rw (h .0) (omega (arith, parts-split t a n (m + 1) (still - part) (rest - part) last (omega arith) (h .1)))
+      rw (h .0, parts-are t a n (m + 1) (still - part) (rest - part) last (omega arith) (h .1))
+
+  -- where nothing may be covered, nothing is
+  parts-none : (t : List ℕ) (a : Asset) (n m : ℕ) → Holds t m (coveredBy (counterpartyAt b) a (mitigantsFrom b m n) 0) → All (λ x. x .amount ≡ 0) (partsAt b t m n)
+  unfolding partsAt mitigantsFrom coveredBy coveredPart
+  parts-none t a zero m h = tt
+  parts-none t a (suc n) m h =
+      let i = mitigantAt b m in
+      let who = counterpartyAt b (i .counterparty) in
+      let d : 0 - covers a i who 0 ≡ 0 = omega arith in
+      (omega (arith, h .0, covers-le a i who 0), parts-none t a n (m + 1) (rw d at (h .1)))
+
+  parted-one : (t u : List ℕ) (place m : ℕ)
+      → getD u place 0 ≡ restOf (assetAt b place) - drawnBy (counterpartyAt b) (holdingAt b place m)
+      → Holds t m (coveredOf (counterpartyAt b) (holdingAt b place m)) → Parted b t u place m
+  unfolding exposuresOf coveredOf drawnBy restOf capOf
+  parted-one t u place m r h =
+      let a = assetAt b place in
+      record {
+        parts = λ e. rw e (parts-are t a (a .count) m (mayBeCovered (counterpartyAt b) a) (net a) (getD u place 0) (rw e at r) (rw e at h));
+        none = λ e. (parts-none t a (a .count) m (rw e at h), omega (arith, rw e at r));
+      }
+
+  parted-from : (t u rests : List ℕ) (more place m : ℕ) → 0 < place → place + more ≡ N b + 1
+      → ((p : ℕ) → 0 < p → p ≤ N b → getD rests p 0 ≡ restOf (assetAt b p))
+      → Holds t m (eachOf (coveredOf (counterpartyAt b)) (holdingsFrom b place m more))
+      → Holds u place (leftFrom (counterpartyAt b) rests place (holdingsFrom b place m more))
+      → PartedFrom b t u place m more
+  unfolding holdingsFrom eachOf leftFrom
+  parted-from t u rests zero place m l g nets h k = tt
+  parted-from t u rests (suc more) place m l g nets h k =
+      let cs = counterpartyAt b in
+      let count = assetAt b place .count in
+      let first = coveredOf cs (holdingAt b place m) in
+      let later = eachOf (coveredOf cs) (holdingsFrom b (place + 1) (m + count) more) in (
+        parted-one t u place m (omega (arith, k .0, nets place l (omega arith))) (holds-first first later t m h),
+        parted-from t u rests more (place + 1) (m + count) (omega arith) (omega arith) nets
+            (holds-rest first later t m (m + count) (omega (arith, covered-length cs b place m)) h) (k .1),
+      )
+
+pub parted : {b covered₀ caps₀ rests₀ covered caps rests : List ℕ} → Accepted b → K b < length covered₀ → N b < length rests₀
+    → ((p : ℕ) → 0 < p → p ≤ N b → getD rests₀ p 0 ≡ restOf (assetAt b p))
+    → Covers b covered₀ caps₀ rests₀ covered caps rests
+    → PartedFrom b covered rests 1 1 (N b)
+unfolding bookOf countsAdd
+parted {b} {covered₀} {caps₀} {rests₀} acc lc lr nets c =
+    let cs = counterpartyAt b in
+    let hs = holdingsFrom b 1 1 (N b) in
+    let h = holds-sets (eachOf (coveredOf cs) hs) covered₀ 1 (omega (arith, covered-size cs b (N b) 1 1, acc .counted)) in
+    let k = holds-sets (leftFrom cs rests₀ 1 hs) rests₀ 1 (omega (arith, left-size cs b rests₀ (N b) 1 1)) in
+    rw (c .parts, c .remainders) (parted-from b _ _ rests₀ (N b) 1 1 (omega arith) (omega arith) nets h k)
+
+-- ---- sums
+
+module _ (b : List ℕ) (f : Exposure → ℕ) (nothing : (x : Exposure) → x .amount ≡ 0 → f x ≡ 0) where
+  sum-nothing : (xs : List Exposure) → All (λ x. x .amount ≡ 0) xs → sumOf f xs ≡ 0
+  unfolding sumOf
+  sum-nothing [] h = refl
+  sum-nothing (x ∷ xs) h = omega (arith, nothing x (h .0), sum-nothing xs (h .1))
 
   parts-append : (t : List ℕ) (j k m : ℕ) → sumOf f (partsAt b t m (j + k)) ≡ sumOf f (partsAt b t m j) + sumOf f (partsAt b t (m + j) k)
   unfolding partsAt sumOf
@@ -86,68 +157,41 @@ module _ (b : List ℕ) (f : Exposure → ℕ) (none : (x : Exposure) → x .amo
       let e : suc j + k ≡ suc (j + k) = omega arith in
       rw (d, e) (omega (arith, parts-append t j k (m + 1)))
 
-  -- where nothing may be covered, the parts add nothing
-  parts-none : (t : List ℕ) (a : Asset) (n m : ℕ) → Holds t m (coveredBy (counterpartyAt b) a (mitigantsFrom b m n) 0) → sumOf f (partsAt b t m n) ≡ 0
-  unfolding partsAt mitigantsFrom coveredBy sumOf coveredPart
-  parts-none t a zero m h = refl
-  parts-none t a (suc n) m h =
-      let i = mitigantAt b m in
-      let who = counterpartyAt b (i .counterparty) in
-      let z : getD t m 0 ≡ 0 = omega (arith, h .0, covers-le a i who 0) in
-      let d : 0 - covers a i who 0 ≡ 0 = omega arith in
-      omega (arith, none (coveredPart i who (getD t m 0)) z, parts-none t a n (m + 1) (rw d at (h .1)))
-
-  -- all of an asset: nothing where it is linked
-  holding-split : (t : List ℕ) (place m last : ℕ)
-      → last ≡ restOf (assetAt b place) - drawnBy (counterpartyAt b) (holdingAt b place m)
-      → Holds t m (coveredOf (counterpartyAt b) (holdingAt b place m))
-      → sumOf f (exposuresOf (counterpartyAt b) (holdingAt b place m)) ≡ sumOf f (partsAt b t m (assetAt b place .count)) + f (remainder (assetAt b place) last)
-  unfolding exposuresOf coveredOf drawnBy restOf capOf remainder sumOf
-  holding-split t place m last r h = by (linked a) refl
+  -- all of an asset
+  holding-split : (t u : List ℕ) (place m : ℕ) → Parted b t u place m
+      → sumOf f (exposuresOf (counterpartyAt b) (holdingAt b place m)) ≡ sumOf f (partsAt b t m (assetAt b place .count)) + f (remainder (assetAt b place) (getD u place 0))
+  unfolding remainder sumOf
+  holding-split t u place m p = by (linked a) refl
     where
       a : Asset
       a = assetAt b place
 
-      by : (q : Bool) → linked a ≡ q → sumOf f (exposuresOf (counterpartyAt b) (holdingAt b place m)) ≡ sumOf f (partsAt b t m (a .count)) + f (remainder a last)
+      by : (q : Bool) → linked a ≡ q → sumOf f (exposuresOf (counterpartyAt b) (holdingAt b place m)) ≡ sumOf f (partsAt b t m (a .count)) + f (remainder a (getD u place 0))
       by true e =
-          let z : last ≡ 0 = omega (arith, rw e at r) in
-          rw e (omega (arith, none (remainder a last) z, parts-none t a (a .count) m (rw e at h)))
-      by false e = rw e (parts-split t a (a .count) m (mayBeCovered (counterpartyAt b) a) (net a) last (rw e at r) (rw e at h))
+          let n = p .none e in
+          rw (linked-none (counterpartyAt b) (holdingAt b place m) e) (omega (arith, sum-nothing (partsAt b t m (a .count)) (n .0), nothing (remainder a (getD u place 0)) (n .1)))
+      by false e = rw (p .parts e) (omega (arith, sum-append f (partsAt b t m (a .count)) (remainder a (getD u place 0) ∷ [])))
 
-  -- `more` assets from a place on, whose first mitigant is the one at place m
-  holdings-split : (t u rests : List ℕ) (more place m : ℕ) → 0 < place → place + more ≡ N b + 1
-      → ((p : ℕ) → 0 < p → p ≤ N b → getD rests p 0 ≡ restOf (assetAt b p))
-      → Holds t m (eachOf (coveredOf (counterpartyAt b)) (holdingsFrom b place m more))
-      → Holds u place (leftFrom (counterpartyAt b) rests place (holdingsFrom b place m more))
+  holdings-split : (t u : List ℕ) (more place m : ℕ) → PartedFrom b t u place m more
       → sumOf f (eachOf (exposuresOf (counterpartyAt b)) (holdingsFrom b place m more))
       ≡ sumOf f (partsAt b t m (heldBy (holdingsFrom b place m more))) + sumOf f (restsAt b u place more)
-  unfolding holdingsFrom eachOf leftFrom restsAt partsAt sumOf
-  holdings-split t u rests zero place m l g nets h k = refl
-  holdings-split t u rests (suc more) place m l g nets h k =
+  unfolding holdingsFrom eachOf restsAt partsAt sumOf
+  holdings-split t u zero place m p = refl
+  holdings-split t u (suc more) place m p =
       let cs = counterpartyAt b in
       let count = assetAt b place .count in
       let others = holdingsFrom b (place + 1) (m + count) more in
-      let first = coveredOf cs (holdingAt b place m) in
-      let later = eachOf (coveredOf cs) others in
       omega (
         arith,
         sum-append f (exposuresOf cs (holdingAt b place m)) (eachOf (exposuresOf cs) others),
-        holding-split t place m (getD u place 0) (omega (arith, k .0, nets place l (omega arith))) (holds-first first later t m h),
-        holdings-split t u rests more (place + 1) (m + count) (omega arith) (omega arith) nets
-            (holds-rest first later t m (m + count) (omega (arith, covered-length cs b place m)) h) (k .1),
+        holding-split t u place m (p .0),
+        holdings-split t u more (place + 1) (m + count) (p .1),
         parts-append t count (heldBy others) m,
       )
 
 -- f is 0 where the amount is: a linked asset has no exposures, and 0 at its places
-pub by-place : {b covered₀ caps₀ rests₀ covered caps rests : List ℕ} → Accepted b → K b < length covered₀ → N b < length rests₀
-    → ((p : ℕ) → 0 < p → p ≤ N b → getD rests₀ p 0 ≡ restOf (assetAt b p))
-    → Covers b covered₀ caps₀ rests₀ covered caps rests
+pub by-place : (b covered rests : List ℕ) → Accepted b → PartedFrom b covered rests 1 1 (N b)
     → (f : Exposure → ℕ) → ((x : Exposure) → x .amount ≡ 0 → f x ≡ 0)
     → sumOf f (exposures (bookOf b)) ≡ sumOf f (partsAt b covered 1 (K b)) + sumOf f (restsAt b rests 1 (N b))
 unfolding exposures bookOf countsAdd
-by-place {b} {covered₀} {caps₀} {rests₀} acc lc lr nets c f none =
-    let cs = counterpartyAt b in
-    let hs = holdingsFrom b 1 1 (N b) in
-    let h = holds-sets (eachOf (coveredOf cs) hs) covered₀ 1 (omega (arith, covered-size cs b (N b) 1 1, acc .counted)) in
-    let k = holds-sets (leftFrom cs rests₀ 1 hs) rests₀ 1 (omega (arith, left-size cs b rests₀ (N b) 1 1)) in
-    rw (c .parts, c .remainders, ← acc .counted) (holdings-split b f none _ _ rests₀ (N b) 1 1 (omega arith) (omega arith) nets h k)
+by-place b covered rests acc p f nothing = rw (← acc .counted) (holdings-split b f nothing covered rests (N b) 1 1 p)

@@ -40,7 +40,7 @@ fn answer(input: &[u8], lent: &mut [u8]) -> Answer
     ensures { λ r. ⌜ Answered (take scheduleSize (now (input .entry))) (drop scheduleSize (now (input .entry))) (now (lent .entry)) (now (lent .exit)) r ⌝ }
 {
     let end = schedule_end(input);
-    report::report(&input[..end], &input[end..], lent)
+    entries::report(&input[..end], &input[end..], lent)
 }
 
 fn main() {

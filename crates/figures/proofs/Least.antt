@@ -63,7 +63,7 @@ module _ (F : Fund) (more : List ℕ) where
       ∙ one-cell F (λ x. if isOf g t x then v x else 0) g t h (λ u w q. none-of (u =? g) (w =? t) (v (lineOf F u w)) (λ a b. q (eqb-true u g a) (eqb-true w t b)))
       ∙ rw (eq-eqb g g refl, eq-eqb t t refl)
 
-  excess-read : (g t : ℕ) → TierOf F g t → excessOf F g t ≡ readExcess R g t
+  pub excess-read : (g t : ℕ) → TierOf F g t → excessOf F g t ≡ readExcess (report F ++ more) g t
   unfolding readExcess lineOf
   excess-read g t h = sym (line-of (λ x. x .excess) g t h)
 

@@ -1,3 +1,4 @@
 pub mod Figures
 pub mod Fund
+pub mod Tables
 pub mod MostLines

@@ -12,7 +12,8 @@ use Rattle.figures.proofs.Size.{bits-lt, bits-ones}
 use Rattle.rows.specs.Rows.{columns, row, row-at}
 use Rattle.lines.specs.Table.{setOf}
 use Rattle.lines.specs.Listing.{entry, groupIn, tierIn, exposureIn, shown, allEntries, entriesOf, Source}
-use Rattle.lines.specs.Promise.{Once, Inside, allExposures}
+use Rattle.cascade.specs.Promise.{Once}
+use Rattle.lines.specs.Promise.{Inside, allExposures}
 use Rattle.lines.proofs.Tries.{those-each, those-all, those-same, those-count, those-sum, sum-map, mapped, each-all, sums-same}
 
 -- the entry of tier t of group number k

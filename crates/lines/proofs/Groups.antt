@@ -15,7 +15,7 @@ use Rattle.cascade.specs.Cascade.{tiers}
 use Rattle.rows.specs.Rows.{row}
 use Rattle.lines.specs.Table.{setOf}
 use Rattle.lines.specs.Listing.{entry, shown, allEntries, tried}
-use Rattle.lines.specs.Promise.{Once}
+use Rattle.cascade.specs.Promise.{Once}
 use Rattle.lines.proofs.Tries.{those-append, tried-same, tried-append}
 use Rattle.lines.proofs.Entries.{groupEntries, shown-row, row-ones}
 use Rattle.lines.proofs.Turn.{above}

@@ -14,7 +14,7 @@ use Rattle.cascade.proofs.Lists.{all-at}
 use Rattle.figures.proofs.Size.{bits-lt}
 use Rattle.lines.specs.Table.{setOf}
 use Rattle.lines.specs.Listing.{entry, tierIn, tried}
-use Rattle.lines.specs.Promise.{Once}
+use Rattle.cascade.specs.Promise.{Once}
 use Rattle.lines.proofs.Entries.{tier-in}
 
 -- whether a group of these exposures has a line of an entry's tier

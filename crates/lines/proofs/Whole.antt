@@ -10,7 +10,7 @@ use Rattle.wire.specs.Bytes.{M, placed}
 use Rattle.wire.proofs.Laws.{placed-before}
 use Rattle.cascade.specs.Cascade.{tiers, byTier, byLimit, ranked}
 use Rattle.rows.specs.Rows.{mostGroups}
-use Rattle.cascade.proofs.Ranking.{ranked-only, ranked-lists, length-ranked}
+use Rattle.cascade.proofs.Ranking.{ranked-only, ranked-once, length-ranked}
 use Rattle.figures.specs.declared.Head.{Head}
 use Rattle.figures.specs.declared.Line.{Line}
 use Rattle.figures.specs.declared.Figures.{Figures}
@@ -21,17 +21,13 @@ use Rattle.figures.proofs.Written.{head-long}
 use Rattle.figures.proofs.Size.{joined-long}
 use Rattle.lines.specs.Table.{Heads, tableFund}
 use Rattle.lines.specs.Listing.{exposureIn, shown, allEntries, entriesOf, tried, Source, linesAlong, noGroup, listedLines}
-use Rattle.lines.specs.Promise.{Once, Listable, Listed, Entries, Table, allExposures}
+use Rattle.lines.specs.Promise.{Listable, Listed, Entries, Table, allExposures}
 use Rattle.lines.proofs.Tries.{tried-long, tried-first}
 use Rattle.lines.proofs.Entries.{all-long, all-inside, entries-few, entries-sum}
 use Rattle.lines.proofs.Along.{along-long, along-within}
 use Rattle.lines.proofs.Heads.{lines-along}
 use Rattle.lines.proofs.Groups.{set-each}
 use Rattle.lines.proofs.Writing.{excesses}
-
--- the tiers by rank have each tier once
-pub ranked-once : (limits : List ℕ) → Once tiers (ranked (byLimit (byTier limits)) tiers)
-ranked-once limits = let r = ranked-lists (byLimit (byTier limits)) tiers in record { inside = r .only; once = r .once }
 
 -- the header of n lines whose excesses add up to x, where the A3 sum is so much above the A3 limit
 abbrev pub headWith : Figures → (n x over : ℕ) → Head
@@ -56,7 +52,7 @@ module _ {S : Source} {list : List ℕ} {groups n : ℕ} (t : Table S list group
   along = listedLines S list n
 
   amounts : sumOf (exposureIn (S .cells)) (take n list) ≤ 900 * M
-  amounts = rw (t .entries) (omega (arith, t .amounts, entries-sum by-rank (ranked-once (S .limits)) (S .cells) groups))
+  amounts = rw (t .entries) (omega (arith, t .amounts, entries-sum by-rank (ranked-once (byLimit (byTier (S .limits))) tiers) (S .cells) groups))
 
   pub table-entries : (room : ℕ) → headSize + lineSize * n ≤ room → Entries S list n room
   table-entries room h =
@@ -69,7 +65,7 @@ module _ {S : Source} {list : List ℕ} {groups n : ℕ} (t : Table S list group
 
   pub lines-few : n ≤ tiers * mostGroups
   lines-few =
-      omega (arith, length-take-le n list (t .long), ap length (t .entries), t .few, entries-few by-rank (ranked-once (S .limits)) (S .cells) groups (length-ranked (byLimit (byTier (S .limits))) tiers))
+      omega (arith, length-take-le n list (t .long), ap length (t .entries), t .few, entries-few by-rank (ranked-once (byLimit (byTier (S .limits))) tiers) (S .cells) groups (length-ranked (byLimit (byTier (S .limits))) tiers))
 
   pub excess-few : excesses along ≤ 900 * M
   excess-few = omega (arith, amounts, along-within S (take n list) noGroup 0)
@@ -112,7 +108,7 @@ pub listed-table :
     → length (S .sets) ≡ length sets₀ → groups ≤ length (S .heads) → allExposures (S .cells) groups ≤ 900 * M → Table S list groups n
 listed-table S {groups} {sets₀} {list₀} {list} {n} a l size tops few =
     let order = ranked (byLimit (byTier (S .limits))) tiers in
-    let o = ranked-once (S .limits) in
+    let o = ranked-once (byLimit (byTier (S .limits))) tiers in
     let z : 0 + length (entriesOf (S .cells) groups order) ≡ n = omega (arith, l .count) in
     let all : length (allEntries groups order) ≡ tiers * groups = all-long order (length-ranked (byLimit (byTier (S .limits))) tiers) groups in
     record {

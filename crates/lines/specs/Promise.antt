@@ -1,6 +1,5 @@
 -- What `put_line`, `list_lines` and `put_report` start from and promise.
 --   LinePut        a line is put, and nothing else changes
---   Once           every tier once
 --   Listable       what a listing starts from
 --   Listed         the number of lines, the sets of the groups' tiers, and the list of entries
 --   allExposures   all exposures of the groups in the tiers
@@ -16,6 +15,7 @@ use lib.ListN.{length, getD, take, drop}
 use Rattle.words.specs.Words.{sum, sumOf, countFrom, All}
 use Rattle.wire.specs.Bytes.{M, placed}
 use Rattle.cascade.specs.Cascade.{tiers, byTier, byLimit, ranked}
+use Rattle.cascade.specs.Promise.{Once}
 use Rattle.figures.specs.declared.Line.{Line}
 use Rattle.figures.specs.declared.Figures.{Figures}
 use Rattle.figures.specs.Report.{headSize, lineSize, lineBytes, linesOf, report}
@@ -30,11 +30,6 @@ pub record LinePut (line : Line) (at : ℕ) (before after : List ℕ) (r : ℕ) 
   pub earlier : take at after ≡ take at before
   pub later : drop (at + lineSize) after ≡ drop (at + lineSize) before
   pub place : r ≡ at + lineSize
-
--- every tier below n stands in the ranking once, and nothing else
-pub record Once (n : ℕ) (ranking : List ℕ) : Type 0 where
-  pub inside : All (λ t. t < n) ranking
-  pub once : (f : ℕ → ℕ) → sumOf f ranking ≡ sum f n
 
 -- a row to each group, an entry of sets to each, and room for an entry to each tier
 pub record Listable (cells : List ℕ) (groups : ℕ) (ranking sets list : List ℕ) : Type 0 where

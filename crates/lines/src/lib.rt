@@ -11,11 +11,12 @@ ghost use lib.ListN.{length};
 ghost use Rattle.words.specs.Words.{_<?_, sumOf};
 ghost use Rattle.wire.specs.Bytes.{bytes64, placed};
 ghost use Rattle.cascade.specs.Cascade.{tiers, byTier};
+ghost use Rattle.cascade.specs.Promise.{Once};
 ghost use Rattle.rows.specs.Rows.{mostGroups};
 ghost use Rattle.figures.specs.Report.{headSize, lineSize, joined, headBytes};
 ghost use Rattle.lines.specs.Table.{setOf};
 ghost use Rattle.lines.specs.Listing.{entry, tierIn, tried, source, listedLines};
-ghost use Rattle.lines.specs.Promise.{LinePut, Once, Listable, Listed, Entries, Ready, Reported};
+ghost use Rattle.lines.specs.Promise.{LinePut, Listable, Listed, Entries, Ready, Reported};
 
 pub const HEAD: usize = 72;
 

@@ -4,7 +4,7 @@ ghost use Prim.Native.Nat.{_<_, _≤_};
 ghost use Rattle.refusal.specs.Refusals.{numberOf, placeOf};
 ghost use Rattle.refusal.specs.Chain.{refuse_unless_, _andThen_};
 
-// The refusals in the order of their numbers, 1 to 18. Those of a record carry its place, from 1.
+// The refusals in the order of their numbers, 1 to 19. Those of a record carry its place, from 1.
 pub enum Refusal {
     ScheduleLength,
     ScheduleMark,
@@ -24,6 +24,7 @@ pub enum Refusal {
     BufferShort,
     SpecialistEntry(u16),
     ManyMitigants(u16),
+    CostRate,
 }
 
 // What a section of checks finds.
@@ -40,7 +41,7 @@ pub enum Answer {
 
 // The refusal's number.
 pub fn number(why: Refusal) -> u64
-    ensures { λ r. ⌜ (r ≡ numberOf why) × (r ≤ 18) ⌝ }
+    ensures { λ r. ⌜ (r ≡ numberOf why) × (r ≤ 19) ⌝ }
 {
     match why {
         Refusal::ScheduleLength => 1,
@@ -61,6 +62,7 @@ pub fn number(why: Refusal) -> u64
         Refusal::BufferShort => 16,
         Refusal::SpecialistEntry(_) => 17,
         Refusal::ManyMitigants(_) => 18,
+        Refusal::CostRate => 19,
     }
 }
 
@@ -87,6 +89,7 @@ pub fn place(why: Refusal) -> u64
         Refusal::BufferShort => 0,
         Refusal::SpecialistEntry(p) => p as u64,
         Refusal::ManyMitigants(p) => p as u64,
+        Refusal::CostRate => 0,
     }
 }
 

@@ -11,9 +11,7 @@ use borrow.Author.Tests.{eqb-true, eqb-false}
 use Rattle.words.specs.Words.{sum}
 use Rattle.words.specs.Sums.{sum-same}
 use Rattle.wire.specs.Bytes.{M}
-use Rattle.refusal.specs.declared.Checked.{Checked}
-use Rattle.refusal.specs.declared.Checked.the-variants.{Fine, Bad}
-use Rattle.refusal.specs.declared.Refusal.{Refusal}
+use Rattle.refusal.specs.declared.Checked.the-variants.{Fine}
 use Rattle.refusal.specs.declared.Answer.the-variants.{Written}
 use Rattle.schedule.specs.Schedule.{scheduleOf}
 use Rattle.book.specs.Records.{C, counterpartyAt}
@@ -21,9 +19,9 @@ use Rattle.book.specs.Book.{bookOf, parentOf}
 use Rattle.book.specs.Accepted.{Accepted}
 use Rattle.exposure.specs.Values.{fundCheck}
 use Rattle.exposure.specs.Sums.{exposureOf}
-use Rattle.cascade.specs.Cascade.{tiers, byTier}
+use Rattle.cascade.specs.Cascade.{tiers, byTier, byLimit}
 use Rattle.cascade.proofs.Core.{Ordered}
-use Rattle.cascade.proofs.Ranking.{byLimit-ordered}
+use Rattle.cascade.proofs.Ranking.{ranked-once, byLimit-ordered}
 use Rattle.rows.specs.Rows.{mostGroups, columns, row, row-at}
 use Rattle.figures.specs.Fund.{Fund}
 use Rattle.figures.specs.Report.{headSize, lineSize, report}
@@ -35,14 +33,14 @@ use Rattle.lines.specs.Table.{Heads, tableFund}
 use Rattle.lines.specs.Listing.{source}
 use Rattle.lines.specs.Promise.{Listable, Listed, allExposures, Table, Ready, Reported}
 use Rattle.lines.proofs.Heads.{head-exposure, no-exposure}
-use Rattle.lines.proofs.Whole.{ranked-once, listed-table}
+use Rattle.lines.proofs.Whole.{listed-table}
 use Rattle.parties.specs.Rows.{topsTo}
 use Rattle.parties.specs.RowLaws.{tops-le, lower, headed-length, Head, head-is, head-at, heads-rise}
 use Rattle.cells.specs.Cells.{rowAt}
 use Rattle.cells.specs.GroupSums.{exposure-none, row-tier, rows-le}
 use Rattle.fund.specs.declared.Fund as made
 use Rattle.fund.specs.Figures.{limit, fundOf}
-use Rattle.fund.specs.Fund.{Passed, Exposed, RatedAs, MadeBy, Made}
+use Rattle.fund.specs.Fund.{Passed, Exposed, RatedAs}
 use Rattle.report.specs.Answer.{fundIn, reportOf, Answered}
 use Rattle.report.specs.Tables.{Headed, Room}
 use Rattle.report.proofs.Chain.{fine}
@@ -55,22 +53,6 @@ ordered schedule book = byLimit-ordered (limit (scheduleOf schedule) (bookOf boo
 report-cuts : (schedule book more : List ℕ) → LeastCuts (fundIn schedule book) (reportOf schedule book ++ more)
 unfolding reportOf
 report-cuts schedule book more = least-cuts (fundIn schedule book) more (ordered schedule book)
-
--- what 14 and 15 found
-module _ (schedule book : List ℕ) (r : made.Fund) (m : Made schedule book r) where
-  pub made-fine : r .found ≡ Fine → (fundCheck (bookOf book) ≡ Fine) × RatedAs schedule book r
-  made-fine f = by (fundCheck (bookOf book)) refl m
-    where
-      by : (x : Checked) → fundCheck (bookOf book) ≡ x → MadeBy x schedule book r → (fundCheck (bookOf book) ≡ Fine) × RatedAs schedule book r
-      by Fine e q = (e, q)
-      by (Bad why) e q = absurd (let w : r .found ≡ Bad why = ap (λ (x : made.Fund). x .found) q in let z : _≡_ {A = ℕ} 0 1 = cc in omega arith)
-
-  pub made-bad : {why : Refusal} → r .found ≡ Bad why → fundCheck (bookOf book) ≡ Bad why
-  made-bad {why} f = by (fundCheck (bookOf book)) refl m
-    where
-      by : (x : Checked) → fundCheck (bookOf book) ≡ x → MadeBy x schedule book r → fundCheck (bookOf book) ≡ Bad why
-      by Fine e q = absurd (let w = q .found in let z : _≡_ {A = ℕ} 0 1 = cc in omega arith)
-      by (Bad other) e q = e ∙ sym (ap (λ (x : made.Fund). x .found) q) ∙ f
 
 module _ {b heads : List ℕ} (H : Headed b heads) {groups : ℕ} (eg : groups ≡ topsTo b (C b)) where
   head : (k : ℕ) → k < groups → Head b (C b) k (getD heads k 0)
@@ -143,7 +125,7 @@ module _ {b heads : List ℕ} (H : Headed b heads) {groups : ℕ} (eg : groups �
         rows = e .size;
         places = q .of-sets;
         room = q .of-list;
-        ranks = rw (d .ranking) (ranked-once (r .limits));
+        ranks = rw (d .ranking) (ranked-once (byLimit (byTier (r .limits))) tiers);
       }
 
       module _ {sets₀ sets list₀ list : List ℕ} {n : ℕ} (l : Listed cells groups (r .ranking) sets₀ sets list₀ list n) where

@@ -1,30 +1,15 @@
 -- The tables that a report is made in.
---   smallSize mediumSize fewGroups   for how many counterparties and groups they have room
---   Within    a book that has room in tables of a size
 --   Headed    the groups' top places by number
 --   Room      room for the groups' sets of tiers and for the entries of their lines
+--   Lists     what is left there: the sets, and a list of so many lines
 use mathlib.Core.List.{List}
 use mathlib.Core.Path.{_≡_}
 use Prim.Native.Nat.{ℕ, _*_, _≤_, _<_}
 use lib.ListN.{length}
-use Rattle.book.specs.Records.{C, N, K}
+use Rattle.book.specs.Records.{C}
 use Rattle.cascade.specs.Cascade.{tiers}
 use Rattle.parties.specs.Rows.{headed}
-
-abbrev pub smallSize : ℕ
-smallSize = 16
-
-abbrev pub mediumSize : ℕ
-mediumSize = 128
-
-abbrev pub fewGroups : ℕ
-fewGroups = 64
-
--- so many counterparties, and four times as many assets and mitigants
-pub record Within (size : ℕ) (b : List ℕ) : Type 0 where
-  pub counterparties : C b ≤ size
-  pub assets : N b ≤ 4 * size
-  pub mitigants : K b ≤ 4 * size
+use Rattle.lines.specs.Promise.{Listed}
 
 -- what the pass over the counterparties leaves of a table that was `before`
 pub record Headed (b heads : List ℕ) : Type 0 where
@@ -35,3 +20,7 @@ pub record Headed (b heads : List ℕ) : Type 0 where
 pub record Room (groups : ℕ) (sets list : List ℕ) : Type 0 where
   pub of-sets : groups ≤ length sets
   pub of-list : tiers * groups ≤ length list
+
+pub record Lists (cells : List ℕ) (groups : ℕ) (ranking sets₀ sets list₀ list : List ℕ) : Type 0 where
+  pub lines : ℕ
+  pub listed : Listed cells groups ranking sets₀ sets list₀ list lines

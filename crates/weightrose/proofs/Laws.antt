@@ -11,7 +11,7 @@ use Rattle.refusal.specs.declared.Answer.{Answer}
 use Rattle.refusal.specs.declared.Checked.{Checked}
 use Rattle.refusal.specs.declared.Checked.the-variants.{Fine, Bad}
 use Rattle.refusal.specs.declared.Refusal.{Refusal}
-use Rattle.refusal.specs.declared.Refusal.the-variants.{ScheduleLength, ScheduleMark, ScheduleVersion, ScheduleRates, BookLength, BookMark, BookVersion, BookCounts, BookAmounts, Counterparty, Asset, Mitigant, MitigantCounts, ReinsuranceValues, StressedAssets, BufferShort, SpecialistEntry, ManyMitigants}
+use Rattle.refusal.specs.declared.Refusal.the-variants.{ScheduleLength, ScheduleMark, ScheduleVersion, ScheduleRates, BookLength, BookMark, BookVersion, BookCounts, BookAmounts, Counterparty, Asset, Mitigant, MitigantCounts, ReinsuranceValues, StressedAssets, BufferShort, SpecialistEntry, ManyMitigants, CostRate}
 use Rattle.refusal.specs.Refusals.{numberOf}
 use Rattle.refusal.specs.Chain.{refuse_unless_, _andThen_, answerBy}
 use Rattle.refusal.specs.Laws.{then-first, then-rest}
@@ -25,8 +25,10 @@ use Rattle.schedule.specs.Schedule.{scheduleSize, published, scheduleBytes}
 use Rattle.schedule.specs.PublishedLaws.{published-length}
 use Rattle.report.specs.Answer.{reportOf, checkOf, answerOf, writtenBy, Answered}
 use Rattle.convert.specs.Convert.{bookConverts, convertAnswer, Converts}
+use Rattle.bills.specs.Bills.{billsSize}
+use Rattle.billing.specs.Billed.{billsOf, billCheck, billAnswer, Billed}
 use Rattle.weightrose.specs.Most.{report-most}
-use Rattle.weightrose.specs.Exported.{packed, Apart, Reported, Converted, Published}
+use Rattle.weightrose.specs.Exported.{packed, Apart, Reported, Converted, BillsWritten, Published}
 
 -- no refusal has the number 0
 numbered : (why : Refusal) → 1 ≤ numberOf why
@@ -48,6 +50,7 @@ numbered StressedAssets = omega arith
 numbered BufferShort = omega arith
 numbered (SpecialistEntry p) = omega arith
 numbered (ManyMitigants p) = omega arith
+numbered CostRate = omega arith
 
 -- a report of a book that the checks let pass has at most 2,400 lines
 few : (schedule book : List ℕ) → bookCheck book ≡ Fine → length (reportOf schedule book) < 4294967296
@@ -96,6 +99,24 @@ converts book before after a r w e =
       apart = rw (e ∙ ap packed (w .answer)) (convert-apart book (length before));
       bytes = w .bytes ∙ ap (λ (x : Answer). writtenBy x (converted book) before) (w .answer);
       kept = rw (w .answer) at (w .kept);
+    }
+
+-- bills are of 2,048 bytes
+bills-apart : (schedule book : List ℕ) (rate n : ℕ) → Apart (billAnswer schedule book rate n) (packed (billAnswer schedule book rate n))
+unfolding billAnswer
+bills-apart schedule book rate n = by (billCheck schedule book rate n)
+  where
+    by : (k : Checked) → Apart (answerBy k billsSize) (packed (answerBy k billsSize))
+    by Fine = omega arith
+    by (Bad why) = omega (arith, numbered why)
+
+pub bills-written : (schedule book : List ℕ) (rate : ℕ) (before after : List ℕ) (a : Answer) (r : ℕ) → Billed schedule book rate before after a → r ≡ packed a → BillsWritten schedule book rate before after r
+bills-written schedule book rate before after a r w e =
+    record {
+      answer = e ∙ ap packed (w .answer);
+      apart = rw (e ∙ ap packed (w .answer)) (bills-apart schedule book rate (length before));
+      bytes = w .bytes ∙ ap (λ (x : Answer). writtenBy x (billsOf schedule book rate) before) (w .answer);
+      sums = rw (w .answer) at (w .sums);
     }
 
 pub too-short : (before : List ℕ) → length before < scheduleSize → Published before before 0

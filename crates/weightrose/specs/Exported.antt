@@ -1,9 +1,10 @@
 -- What the exported entries promise.
---   packed      an answer as one number
---   Apart       the number tells what was written from a refusal
---   Reported    of weightrose_report
---   Converted   of weightrose_convert
---   Published   of weightrose_published
+--   packed         an answer as one number
+--   Apart          the number tells what was written from a refusal
+--   Reported       of weightrose_report
+--   Converted      of weightrose_convert
+--   BillsWritten   of weightrose_bills
+--   Published      of weightrose_published
 use mathlib.Core.List.{List, _++_}
 use mathlib.Core.Path.{_≡_}
 use Prim.Native.Nat.{ℕ, _+_, _*_, _≤_, _<_}
@@ -16,6 +17,7 @@ use Rattle.schedule.specs.Schedule.{scheduleSize, published, scheduleBytes}
 use Rattle.conversion.specs.Conversion.{converted}
 use Rattle.convert.specs.Convert.{convertAnswer, KeptBy}
 use Rattle.report.specs.Answer.{fundIn, reportOf, answerOf, writtenBy, CutsOf}
+use Rattle.billing.specs.Billed.{billsOf, billAnswer, AddUpBy}
 
 -- "A refusal is a number and a place": the number in the high 32 bits, the place in the low ones; else the length written
 abbrev pub packed : Answer → ℕ
@@ -40,6 +42,13 @@ pub record Converted (book before after : List ℕ) (r : ℕ) : Type 0 where
   pub apart : Apart (convertAnswer book (length before)) r
   pub bytes : after ≡ writtenBy (convertAnswer book (length before)) (converted book) before
   pub kept : KeptBy (convertAnswer book (length before)) book after
+
+-- C-14: the number r, and the lent bytes `before` and `after`; "must add up" by the last part
+pub record BillsWritten (schedule book : List ℕ) (rate : ℕ) (before after : List ℕ) (r : ℕ) : Type 0 where
+  pub answer : r ≡ packed (billAnswer schedule book rate (length before))
+  pub apart : Apart (billAnswer schedule book rate (length before)) r
+  pub bytes : after ≡ writtenBy (billAnswer schedule book rate (length before)) (billsOf schedule book rate) before
+  pub sums : AddUpBy (billAnswer schedule book rate (length before)) schedule book rate after
 
 -- "The published schedule (A1 to A3) is a constant of the product": its bytes where they fit
 pub record Published (before after : List ℕ) (r : ℕ) : Type 0 where

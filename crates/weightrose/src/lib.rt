@@ -3,7 +3,7 @@ use refusal::Answer;
 ghost use mathlib.Core.Path.{_≡_};
 ghost use Prim.Native.Nat.{_+_, _*_, _<_};
 ghost use lib.ListN.{length};
-ghost use Rattle.weightrose.specs.Exported.{packed, Reported, Converted, Published};
+ghost use Rattle.weightrose.specs.Exported.{packed, Reported, Converted, BillsWritten, Published};
 
 // An answer as one number: a refusal's number above its place, or the length written.
 fn pack(answer: Answer) -> u64
@@ -20,7 +20,7 @@ fn pack(answer: Answer) -> u64
 pub extern "C" fn weightrose_report(schedule: &[u8], book: &[u8], report: &mut [u8]) -> u64
     ensures { λ r. ⌜ Reported (now (schedule .entry)) (now (book .entry)) (now (report .entry)) (now (report .exit)) r ⌝ }
 {
-    pack(report::report(schedule, book, report))
+    pack(entries::report(schedule, book, report))
 }
 
 // A book of version 1 as one of version 2, into the lent bytes.
@@ -29,6 +29,14 @@ pub extern "C" fn weightrose_convert(book: &[u8], converted: &mut [u8]) -> u64
     ensures { λ r. ⌜ Converted (now (book .entry)) (now (converted .entry)) (now (converted .exit)) r ⌝ }
 {
     pack(convert::convert(book, converted))
+}
+
+// The desks' bills for the excesses of a book under a schedule, at a rate in ten-thousandths, into the lent bytes.
+#[no_mangle]
+pub extern "C" fn weightrose_bills(schedule: &[u8], book: &[u8], rate: u64, bills: &mut [u8]) -> u64
+    ensures { λ r. ⌜ BillsWritten (now (schedule .entry)) (now (book .entry)) rate (now (bills .entry)) (now (bills .exit)) r ⌝ }
+{
+    pack(entries::bills(schedule, book, rate, bills))
 }
 
 // The published schedule's bytes, into the lent bytes, and how many they are; 0 and no byte changed where fewer are lent.

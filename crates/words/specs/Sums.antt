@@ -1,5 +1,5 @@
--- Laws of sums, of concatenation and of what holds of every element. Over a list: sum-append, sum-each, sum-each-same, sum-length, length-each,
--- each-append, each-same, each-next, all-at, all-map, all-both, all-count, length-count, count-at.
+-- Laws of sums, of concatenation and of what holds of every element. Over a list: sum-append, sum-map, sum-each, sum-agree, sum-each-same, sum-length, length-each,
+-- each-append, each-same, each-next, all-at, all-map, all-both, all-append, all-mapped, all-count, length-count, count-at.
 -- Over a range: sum-zero, sum-add, sum-le, sum-same, sum-first, sum-count (a sum over countFrom is one over the range). Of both: sum-most, sum-swap, sum-once.
 use mathlib.Core.Bool.{Bool, true, false}
 use mathlib.Core.List.{List, [], _∷_, _++_, append-assoc, append-nil, map}
@@ -17,12 +17,22 @@ unfolding sumOf
 sum-append f [] ys = omega arith
 sum-append f (x ∷ xs) ys = omega (arith, sum-append f xs ys)
 
+pub sum-map : {A B : Type 0} (f : B → ℕ) (g : A → B) (xs : List A) → sumOf f (map g xs) ≡ sumOf (λ x. f (g x)) xs
+unfolding sumOf
+sum-map f g [] = refl
+sum-map f g (x ∷ xs) = ap (λ (n : ℕ). f (g x) + n) (sum-map f g xs)
+
 pub sum-each : {A B : Type 0} (f : B → ℕ) (g : A → List B) (xs : List A) → sumOf f (eachOf g xs) ≡ sumOf (λ x. sumOf f (g x)) xs
 unfolding sumOf eachOf
 sum-each f g [] = refl
 sum-each f g (x ∷ xs) = sum-append f (g x) (eachOf g xs) ∙ ap (λ (n : ℕ). sumOf f (g x) + n) (sum-each f g xs)
 
--- two functions that agree on every element have the same sum
+-- two functions that agree on every element of the list, or on every element there is, have the same sum
+pub sum-agree : {A : Type 0} (f g : A → ℕ) (xs : List A) → All (λ x. f x ≡ g x) xs → sumOf f xs ≡ sumOf g xs
+unfolding sumOf
+sum-agree f g [] h = refl
+sum-agree f g (x ∷ xs) h = rw (h .0, sum-agree f g xs (h .1))
+
 pub sum-each-same : {A : Type 0} (f g : A → ℕ) (xs : List A) → ((x : A) → f x ≡ g x) → sumOf f xs ≡ sumOf g xs
 unfolding sumOf
 sum-each-same f g [] h = refl
@@ -70,6 +80,14 @@ all-map f (x ∷ xs) h = (f x (h .0), all-map f xs (h .1))
 pub all-both : {A : Type 0} {P Q R : A → Type 0} → ((x : A) → P x → Q x → R x) → (xs : List A) → All P xs → All Q xs → All R xs
 all-both f [] h g = tt
 all-both f (x ∷ xs) h g = (f x (h .0) (g .0), all-both f xs (h .1) (g .1))
+
+pub all-append : {A : Type 0} (P : A → Type 0) (xs ys : List A) → All P xs → All P ys → All P (xs ++ ys)
+all-append P [] ys h k = k
+all-append P (x ∷ xs) ys h k = (h .0, all-append P xs ys (h .1) k)
+
+pub all-mapped : {A B : Type 0} (P : B → Type 0) (f : A → B) (xs : List A) → All (λ x. P (f x)) xs → All P (map f xs)
+all-mapped P f [] h = tt
+all-mapped P f (x ∷ xs) h = (h .0, all-mapped P f xs (h .1))
 
 -- a, a + 1, .. up to a + n
 pub all-count : (a n : ℕ) → All (λ k. (a ≤ k) × (k < a + n)) (countFrom a n)

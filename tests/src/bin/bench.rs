@@ -1,6 +1,6 @@
 //! Times the library beside the second implementation and, where the build was given one, a
 //! yardstick, on four books; then the library alone: on the same books as version 2, its converter,
-//! and how its time grows with the book.
+//! its bills, and how its time grows with the book.
 //!
 //! Rounds of about a millisecond are taken in turn (the slow second implementation in every tenth
 //! alone), and each subject's best round counts. A call is a whole one: checks, report and all.
@@ -9,10 +9,10 @@
 
 use std::hint::black_box;
 use std::time::{Duration, Instant};
-use weightrose_tests::inputs::{lifelike, Parents, Shape};
+use weightrose_tests::inputs::{at_desks, lifelike, Parents, Shape};
 use weightrose_tests::random::Random;
 use weightrose_tests::weightrose::{
-    packed_convert, packed_report, published, Answer, LARGEST_REPORT,
+    bill, packed_bills, packed_convert, packed_report, published, Answer, BILLS, LARGEST_REPORT,
 };
 #[cfg(yardstick)]
 use weightrose_tests::yardstick;
@@ -22,6 +22,8 @@ use weightrose_tests::{second, weightrose};
 const BOOKS: u64 = 16;
 const ROUNDS: usize = 300;
 const ROUND: Duration = Duration::from_millis(1);
+/// The cost rate of the bills: 4.37 per cent.
+const RATE: u64 = 437;
 
 type Report = fn(&[u8], &[u8], &mut [u8]) -> u64;
 
@@ -169,6 +171,61 @@ fn versions_and_converter() {
     }
 }
 
+/// The same books as version 2, their assets at any desks.
+fn books_at_desks(shape: &Shape) -> Vec<Vec<u8>> {
+    let book = |number| {
+        let random = &mut Random::new(117, number);
+        let mut book = lifelike(random, shape);
+        at_desks(random, &mut book);
+        book.bytes()
+    };
+    (0..BOOKS).map(book).collect()
+}
+
+/// How many desks are billed, on average. The library and the second implementation must agree on
+/// the bills of each book.
+fn desks_billed(name: &str, books: &[Vec<u8>]) -> usize {
+    let billed = |book: &Vec<u8>| {
+        let [mut bills, mut same] = [[0xa5; BILLS]; 2];
+        assert_eq!(packed_bills(&published(), book, RATE, &mut bills), BILLS as u64, "{name}");
+        second::bills(&published(), book, RATE, &mut same);
+        assert!(bills == same, "{name}: the bills differ");
+        (0..=255).filter(|&desk| bill(&bills, desk) > 0).count()
+    };
+    books.iter().map(billed).sum::<usize>() / books.len()
+}
+
+/// The bills of books at desks, and of the same books of version 1, as multiples of the report's
+/// time on the same books.
+fn bills() {
+    let bills: Report = |schedule, book, buffer| packed_bills(schedule, book, RATE, buffer);
+    println!("\nThe library's bills, of books at desks and of the same books of version 1:\n");
+    let head = [
+        "book",
+        "desks billed",
+        "report, version 2, µs",
+        "bills, version 2, µs",
+        "bills / report, version 2",
+        "bills / report, version 1",
+    ];
+    print_row(&head.map(str::to_string));
+    print_row(&head.map(|_| "---".to_string()));
+    for Case { name, shape } in cases() {
+        let (old, new) = (books(&shape), books_at_desks(&shape));
+        let desks = desks_billed(name, &new);
+        let [report, billed, old_report, old_billed] =
+            best_of([(packed_report, &new), (bills, &new), (packed_report, &old), (bills, &old)]);
+        print_row(&[
+            name.to_string(),
+            desks.to_string(),
+            format!("{:.2}", report / 1_000.0),
+            format!("{:.2}", billed / 1_000.0),
+            format!("{:.3}", billed / report),
+            format!("{:.3}", old_billed / old_report),
+        ]);
+    }
+}
+
 /// Nanoseconds of a call of each function on its books: the best of interleaved rounds.
 fn best_of<const N: usize>(calls: [(Report, &Vec<Vec<u8>>); N]) -> [f64; N] {
     let mut buffer = vec![0; LARGEST_REPORT];
@@ -209,5 +266,6 @@ fn main() {
     let subjects = subjects();
     compare_subjects(&subjects);
     versions_and_converter();
+    bills();
     growth(&subjects[..1]);
 }

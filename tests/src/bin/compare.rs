@@ -1,28 +1,34 @@
-//! Compares the library with the second implementation and prints what it met: the reports, and the
-//! converters, whose books must get the same report before and behind.
+//! Compares the library with the second implementation and prints what it met: the reports; the
+//! converters, whose books must get the same report before and behind; and the bills, which must
+//! add up to the cost of the report's charge.
 //!
-//!     compare [--inputs N] [--seed S]            N inputs (60,000 unless said) under the seed S, and
-//!                                                a fifth as many of the converter
+//!     compare [--inputs N] [--seed S]            N inputs (60,000 unless said) under the seed S, a
+//!                                                fifth as many of the converter, and of the bills
 //!     compare --only I [--seed S] [--dump FILE]  input I alone; FILE gets its schedule and book
 //!     compare --conversion I [--seed S] ..       the same of the converter's inputs
+//!     compare --billing I [--seed S] ..          the same of the bills' inputs
 //!     compare --against yardstick ..             with the static library that the build was given,
 //!                                                reports alone
 //!     compare --without-version V ..             leaving out books whose byte 4 is V
 //!
-//! Ends with status 1 on the first difference, or where a refusal or a tier was not met at all.
+//! Ends with status 1 on the first difference, or where a refusal or a tier was not met at all, or
+//! no more than half of the bills were of excesses at several desks.
 
 use std::process::ExitCode;
 use std::time::Instant;
 use weightrose_tests::compare::{
-    compare, keeps, library, library_convert, second, second_convert, Lent, Outcome, Subject, GUARD,
+    adds_up, compare, compare_bills, keeps, library, library_bills, library_convert, second,
+    second_bills, second_convert, Difference, Lent, Outcome, GUARD,
 };
-use weightrose_tests::inputs::{Conversions, Input, Inputs};
+use weightrose_tests::inputs::{Billing, Billings, Conversions, Input, Inputs};
+use weightrose_tests::second::served_of;
 use weightrose_tests::weightrose::{Answer, HEADER, LINE};
 
-const REFUSALS: usize = 18;
-/// The refusals that a report has, and those that a conversion has.
-const OF_REPORT: std::ops::RangeInclusive<usize> = 1..=17;
-const OF_CONVERSION: std::ops::RangeInclusive<usize> = 5..=18;
+const REFUSALS: usize = 19;
+/// The refusals that a report has, those that a conversion has, and those that bills have.
+const OF_REPORT: &[usize] = &[1, 2, 3, 4, 5, 6, 7, 8, 9, 10, 11, 12, 13, 14, 15, 16, 17];
+const OF_CONVERSION: &[usize] = &[5, 6, 7, 8, 9, 10, 11, 12, 13, 14, 15, 16, 17, 18];
+const OF_BILLS: &[usize] = &[1, 2, 3, 4, 5, 6, 7, 8, 9, 10, 11, 12, 13, 14, 15, 16, 17, 19];
 const TIERS: usize = 16;
 const TIER_NAMES: [&str; TIERS] = [
     "i",
@@ -48,6 +54,7 @@ struct Options {
     seed: u64,
     only: Option<usize>,
     conversion: Option<usize>,
+    billing: Option<usize>,
     without_version: Option<u8>,
     dump: Option<String>,
     against: Other,
@@ -81,6 +88,7 @@ fn options() -> Result<Options, String> {
         seed: 20_230_701,
         only: None,
         conversion: None,
+        billing: None,
         without_version: None,
         dump: None,
         against: SECOND,
@@ -94,6 +102,7 @@ fn options() -> Result<Options, String> {
             "--seed" => options.seed = number()?,
             "--only" => options.only = Some(number()? as usize),
             "--conversion" => options.conversion = Some(number()? as usize),
+            "--billing" => options.billing = Some(number()? as usize),
             "--without-version" => options.without_version = Some(number()? as u8),
             "--dump" => options.dump = Some(value),
             "--against" => options.against = other(&value)?,
@@ -132,7 +141,7 @@ impl Met {
         }
     }
 
-    fn print(&self, written: &str, refusals: std::ops::RangeInclusive<usize>) {
+    fn print(&self, written: &str, refusals: &[usize]) {
         println!(
             "books of specialist funds {}, of version 2 {}",
             self.specialist_funds, self.version_2
@@ -149,8 +158,8 @@ impl Met {
         }
     }
 
-    fn refusals_met(&self, mut refusals: std::ops::RangeInclusive<usize>) -> bool {
-        self.written > 0 && refusals.all(|number| self.refusals[number - 1] > 0)
+    fn refusals_met(&self, refusals: &[usize]) -> bool {
+        self.written > 0 && refusals.iter().all(|number| self.refusals[number - 1] > 0)
     }
 
     fn lines_met(&self) -> bool {
@@ -158,21 +167,55 @@ impl Met {
     }
 }
 
-/// Both subjects on one input, which is named where they differ.
+/// What accepted inputs of the bills met.
+#[derive(Default)]
+struct MetBills {
+    with_excess: u64,
+    several_desks: u64,
+    cut_lines: u64,
+    a3_excess: u64,
+    last_desk: u64,
+}
+
+impl MetBills {
+    fn count(&mut self, input: &Input) {
+        let served = served_of(&input.schedule, &input.book).expect("an accepted book");
+        let desks = served.excesses.map(|excess| excess.of_lines + excess.of_a3 > 0);
+        let with_excess = desks.iter().filter(|&&excess| excess).count();
+        self.with_excess += u64::from(with_excess > 0);
+        self.several_desks += u64::from(with_excess > 1);
+        self.cut_lines += u64::from(served.cut > 0);
+        self.a3_excess += u64::from(served.excesses[0].of_a3 > 0);
+        self.last_desk += u64::from(desks[255]);
+    }
+
+    fn print(&self) {
+        println!("of these with an excess {}", self.with_excess);
+        println!("  at several desks      {}", self.several_desks);
+        println!("  within a line         {}", self.cut_lines);
+        println!("  of A3                 {}", self.a3_excess);
+        println!("  at desk 255           {}", self.last_desk);
+    }
+
+    fn met(&self, written: u64) -> bool {
+        let each = [self.cut_lines, self.a3_excess, self.last_desk];
+        2 * self.several_desks > written && each.into_iter().all(|count| count > 0)
+    }
+}
+
+/// One comparison of an input, which is named where the two differ.
 fn compare_one(
     options: &Options,
     option: &str,
     number: usize,
     input: &Input,
-    subjects: [Subject; 2],
+    comparison: impl FnOnce() -> Result<Outcome, Difference>,
 ) -> Result<Outcome, String> {
     if let Some(file) = &options.dump {
         let bytes = [&input.schedule[..], &input.book[..]].concat();
         std::fs::write(file, bytes).map_err(|error| format!("{file}: {error}"))?;
     }
-    let [one, other] = subjects;
-    compare(one, other, input)
-        .map_err(|difference| named(options, option, number, input, &difference))
+    comparison().map_err(|difference| named(options, option, number, input, &difference))
 }
 
 fn named(
@@ -204,7 +247,8 @@ fn reports(options: &Options) -> Result<(), String> {
         if options.without_version.is_some_and(|version| input.book.get(4) == Some(&version)) {
             continue;
         }
-        let outcome = compare_one(options, "--only", number, &input, [&library, &other])?;
+        let both = || compare(&library, &other, &input);
+        let outcome = compare_one(options, "--only", number, &input, both)?;
         met.count(&input, &outcome);
         met.count_lines(&outcome);
         compared += 1;
@@ -228,8 +272,8 @@ fn conversions(options: &Options) -> Result<(), String> {
     let count = options.inputs / 5;
     for number in numbers(options.conversion, count) {
         let input = inputs.get(number);
-        let subjects: [Subject; 2] = [&library_convert, &second_convert];
-        let outcome = compare_one(options, "--conversion", number, &input, subjects)?;
+        let both = || compare(&library_convert, &second_convert, &input);
+        let outcome = compare_one(options, "--conversion", number, &input, both)?;
         if let Some(Answer::Written(length)) = Answer::unpacked(outcome.answer) {
             keeps(&input, &outcome.area[GUARD..GUARD + length])
                 .map_err(|what| named(options, "--conversion", number, &input, &what))?;
@@ -247,13 +291,52 @@ fn conversions(options: &Options) -> Result<(), String> {
     Ok(())
 }
 
+fn bills(options: &Options) -> Result<(), String> {
+    let start = Instant::now();
+    let inputs = Billings::new(options.seed);
+    let (mut met, mut met_bills) = (Met::default(), MetBills::default());
+    let numbers = numbers(options.billing, options.inputs / 5);
+    let count = numbers.len();
+    for number in numbers {
+        let billing = inputs.get(number);
+        let Billing { input, rate } = &billing;
+        let both = || compare_bills(&library_bills, &second_bills, &billing);
+        let outcome = compare_one(options, "--billing", number, input, both)
+            .map_err(|what| format!("{what}, rate {rate}"))?;
+        if let Some(Answer::Written(length)) = Answer::unpacked(outcome.answer) {
+            adds_up(&billing, &outcome.area[GUARD..GUARD + length])
+                .map_err(|what| named(options, "--billing", number, input, &what))?;
+            met_bills.count(input);
+        }
+        met.count(input, &outcome);
+    }
+    met.print("bills", OF_BILLS);
+    met_bills.print();
+    let all_met = met.refusals_met(OF_BILLS) && met_bills.met(met.written);
+    if options.billing.is_none() && !all_met {
+        return Err("a refusal or an excess of the bills was not met".to_string());
+    }
+    let (fixed, seconds) = (inputs.fixed(), start.elapsed().as_secs_f64());
+    println!(
+        "bills compared on {count} inputs, the first {fixed} fixed: no difference, {seconds:.1} s"
+    );
+    Ok(())
+}
+
 fn run(options: &Options) -> Result<(), String> {
     println!("library and {}, seed {}", options.against.name, options.seed);
-    if options.conversion.is_none() {
+    let one = [options.only, options.conversion, options.billing];
+    let asked = |entry: usize| one[entry].is_some() || one.iter().all(Option::is_none);
+    if asked(0) {
         reports(options)?;
     }
-    if options.only.is_none() && options.against.name == SECOND.name {
-        conversions(options)?;
+    if options.against.name == SECOND.name {
+        if asked(1) {
+            conversions(options)?;
+        }
+        if asked(2) {
+            bills(options)?;
+        }
     }
     Ok(())
 }

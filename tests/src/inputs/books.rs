@@ -197,6 +197,23 @@ fn add_mitigants(random: &mut Random, shape: &Shape, scale: u64, book: &mut RawB
     book.mitigants = (0..shape.mitigants).map(mitigant).collect();
 }
 
+/// Gives one or two assets some hundred mitigants more.
+pub fn crowd(random: &mut Random, book: &mut RawBook) {
+    for _ in 0..random.between(1, 2) {
+        let more = random.pick(&[200, 254, 255, 256, 257, 300, 512]);
+        if book.assets.is_empty() || book.mitigants.len() + more > 1_500 {
+            return;
+        }
+        let place = random.index(book.assets.len());
+        let before: usize =
+            book.assets[..place].iter().map(|asset| usize::from(asset.mitigants)).sum();
+        let counterparty = random.between(1, book.counterparties.len() as u64) as u16;
+        let one = RawMitigant { form: 1, flags: 31, counterparty, value: random.below(50) };
+        book.mitigants.splice(before..before, vec![one; more]);
+        book.assets[place].mitigants += more as u16;
+    }
+}
+
 /// Total, base and excluded, such that 14 and 15 mostly accept them.
 pub fn set_totals(random: &mut Random, scale: u64, book: &mut RawBook) {
     let reinsurance = || book.assets.iter().filter(|asset| asset.kind == 9);

@@ -137,7 +137,7 @@ fn seeded(random: &mut Random) -> Input {
     let family = if random.chance(20) { specialist::random } else { books::random };
     let (schedule, mut book) = family(random);
     if random.chance(25) {
-        crowd(random, &mut book);
+        books::crowd(random, &mut book);
     }
     if random.chance(10) {
         versions::at_desks(random, &mut book);
@@ -152,21 +152,4 @@ fn seeded(random: &mut Random) -> Input {
         _ => length + random.index(200),
     });
     input
-}
-
-/// Gives one or two assets some hundred mitigants more.
-fn crowd(random: &mut Random, book: &mut RawBook) {
-    for _ in 0..random.between(1, 2) {
-        let more = random.pick(&[200, 254, 255, 256, 257, 300, 512]);
-        if book.assets.is_empty() || book.mitigants.len() + more > 1_500 {
-            return;
-        }
-        let place = random.index(book.assets.len());
-        let before: usize =
-            book.assets[..place].iter().map(|asset| usize::from(asset.mitigants)).sum();
-        let counterparty = random.between(1, book.counterparties.len() as u64) as u16;
-        let one = RawMitigant { form: 1, flags: 31, counterparty, value: random.below(50) };
-        book.mitigants.splice(before..before, vec![one; more]);
-        book.assets[place].mitigants += more as u16;
-    }
 }

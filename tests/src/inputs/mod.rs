@@ -2,9 +2,10 @@
 //! every combination of a list, the limits of specialist funds and the versions of a book (`edges`,
 //! `extremes`, `combinations`, `specialist`, `versions`), then seeded books of any fund (`books`)
 //! and, every fifth, of a specialist one (`specialist`), some of them with faults or damage
-//! (`faults`). The converter has a list of its own (`conversions`). An input's number and the seed
-//! make it again.
+//! (`faults`). The converter has a list of its own (`conversions`), and so have the bills
+//! (`billings`). An input's number and the seed make it again.
 
+mod billings;
 mod books;
 mod combinations;
 mod conversions;
@@ -14,10 +15,12 @@ mod faults;
 mod specialist;
 mod versions;
 
+pub use billings::{Billing, Billings};
 pub use books::{lifelike, Parents, Shape};
 pub use conversions::Conversions;
 pub use edges::sample;
 pub use extremes::{largest_report_book, largest_specialist_book, sixteen_tiers};
+pub use versions::at_desks;
 
 use crate::random::Random;
 use crate::raw::{RawBook, RawSchedule};

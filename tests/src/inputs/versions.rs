@@ -14,9 +14,15 @@ pub fn all() -> Vec<Input> {
 /// A book of version 2, its assets at any desks.
 pub fn at_desks(random: &mut Random, book: &mut RawBook) {
     book.version = 2;
-    let few = [0, 1, 7, 255];
-    for asset in &mut book.assets {
-        asset.desk = if random.chance(50) { random.pick(&few) } else { random.below(256) as u8 };
+    book.assets.iter_mut().for_each(|asset| asset.desk = any_desk(random));
+}
+
+/// Any desk, often one of a few.
+pub fn any_desk(random: &mut Random) -> u8 {
+    if random.chance(50) {
+        random.pick(&[0, 1, 7, 255])
+    } else {
+        random.below(256) as u8
     }
 }
 

@@ -23,12 +23,14 @@ pub struct Sums {
     pub w: i128,
 }
 
+/// The topmost parent of each counterparty.
+pub fn tops<R: Rules>(rules: &R, book: &Book) -> BTreeMap<Place, Place> {
+    let top = |&place: &Place| (place, rules.topmost(&book.counterparties, place));
+    book.counterparties.keys().map(top).collect()
+}
+
 pub fn sums<R: Rules>(rules: &R, book: &Book) -> Sums {
-    let tops: BTreeMap<Place, Place> = book
-        .counterparties
-        .keys()
-        .map(|&place| (place, rules.topmost(&book.counterparties, place)))
-        .collect();
+    let tops = tops(rules, book);
     let mut sums = Sums::default();
     for asset in &book.assets {
         // "A linked asset's net is unlimited and its mitigants unread."

@@ -1,12 +1,14 @@
-//! A second implementation of document 01, with document 02's requests C-11 and C-13, written from
-//! the documents and from nothing else.
+//! A second implementation of document 01, with document 02's requests C-11, C-13 and C-14, written
+//! from the documents and from nothing else.
 //!
 //! It reads bytes into records (`read`), takes values, exposures, tiers and limits from them
 //! (`fund`), sums them by group and cuts what passes a limit (`cascade`), and writes the report
-//! (`write`); a book is converted record by record (`convert`). Amounts are `i128` and limits exact fractions (`fraction`), so that no bound on them
+//! (`write`); a book is converted record by record (`convert`), and desks are billed line by line
+//! (`bills`). Amounts are `i128` and limits exact fractions (`fraction`), so that no bound on them
 //! has to be known. Each sentence that could be got wrong by itself is a method of `rules`; `slip`
 //! has the wrong variants that a comparison must catch.
 
+mod bills;
 mod cascade;
 mod convert;
 mod fraction;
@@ -17,12 +19,13 @@ mod rules;
 mod slip;
 mod write;
 
+pub use bills::{bills, bills_by, served_of, Served};
 pub use convert::{convert, convert_by, rebuilt};
 pub use rules::{Documents, Rules};
 pub use slip::Slip;
 
 use crate::weightrose::{Answer, Refusal};
-use records::Line;
+use records::{Book, Line};
 use write::Figures;
 
 /// The answer to a schedule and a book, with the report at the front of the buffer.
@@ -50,6 +53,19 @@ pub fn length(schedule: &[u8], book: &[u8]) -> Option<usize> {
 }
 
 fn bytes_by<R: Rules>(rules: &R, schedule: &[u8], book: &[u8]) -> Result<Vec<u8>, Refusal> {
+    let accepted = accepted_by(rules, schedule, book)?;
+    Ok(write::report(rules, &accepted.figures, &accepted.groups))
+}
+
+/// A book that is accepted, and what its report says.
+struct Accepted {
+    book: Book,
+    /// Each group's lines by rank.
+    groups: Vec<Vec<Line>>,
+    figures: Figures,
+}
+
+fn accepted_by<R: Rules>(rules: &R, schedule: &[u8], book: &[u8]) -> Result<Accepted, Refusal> {
     let schedule = read::schedule(schedule)?;
     let book = read::book(rules, |version| rules.version_passes(version), book)?;
     let values = fund::values(rules, &book);
@@ -78,5 +94,5 @@ fn bytes_by<R: Rules>(rules: &R, schedule: &[u8], book: &[u8]) -> Result<Vec<u8>
         a3_limit,
         charge: rules.charge(group_excess, a3_sum, a3_limit),
     };
-    Ok(write::report(rules, &figures, &groups))
+    Ok(Accepted { book, groups, figures })
 }

@@ -252,7 +252,7 @@ fn asset<R: Rules>(rules: &R, version: u16, mut bytes: Bytes, most_place: Place)
     };
     let months = bytes.u8();
     let counterparty = known_place(bytes.u16(), most_place)?;
-    let count = rules.count(version, bytes.array());
+    let count_and_desk = bytes.array();
     let asset = Asset {
         kind,
         linked,
@@ -265,7 +265,8 @@ fn asset<R: Rules>(rules: &R, version: u16, mut bytes: Bytes, most_place: Place)
         deductions: bytes.amount()?,
         insurance_stress: bytes.amount()?,
         combination_stress: bytes.amount()?,
-        count,
+        desk: rules.desk(version, count_and_desk),
+        count: rules.count(version, count_and_desk),
         mitigants: Vec::new(),
     };
     let accepted = reinsurance_fields_accepted(&asset)

@@ -119,6 +119,7 @@ pub struct Asset {
     pub deductions: i128,
     pub insurance_stress: i128,
     pub combination_stress: i128,
+    pub desk: u8,
     /// How many mitigants the record says it has, and those that are there.
     pub count: u16,
     pub mitigants: Vec<Mitigant>,
@@ -236,4 +237,33 @@ pub struct Line {
     pub excess: i128,
     /// The part of the exposure that A3 counts, before its cap.
     pub a3_together: i128,
+}
+
+/// A covered part or a remainder, as what stands is given to it (C-14).
+#[derive(Clone, Debug)]
+pub struct ExposureLine {
+    pub asset: Place,
+    pub covered: bool,
+    pub desk: u8,
+    pub counterparty: Place,
+    pub top: Place,
+    /// None where it has no limit.
+    pub tier: Option<Tier>,
+    pub amount: i128,
+}
+
+/// A group's tier while what stands there is given to its exposure lines.
+#[derive(Clone, Debug, Default)]
+pub struct Account {
+    pub exposure: i128,
+    pub excess: i128,
+    /// What stands and was not given yet.
+    pub left: i128,
+}
+
+/// The excess of one desk: what of its lines was not served, and what it has of A3's.
+#[derive(Clone, Copy, Debug, Default)]
+pub struct DeskExcess {
+    pub of_lines: i128,
+    pub of_a3: i128,
 }

@@ -4,7 +4,7 @@
 
 use super::fraction::Fraction;
 use super::records::*;
-use crate::weightrose::Refusal;
+use crate::weightrose::{Refusal, BILLS, DESKS};
 use std::collections::BTreeMap;
 
 /// Document 01, as document 02's requests have changed it.
@@ -36,6 +36,15 @@ pub trait Rules {
         match version {
             2 => u16::from(bytes[0]),
             _ => u16::from_le_bytes(bytes),
+        }
+    }
+
+    /// C-13: "byte 7 holds the desk, 0 to 255". C-14: "The A3 excess goes to desk 0, as does every
+    /// line of a version 1 book."
+    fn desk(&self, version: u16, bytes: [u8; 2]) -> u8 {
+        match version {
+            2 => bytes[1],
+            _ => 0,
         }
     }
 
@@ -120,6 +129,85 @@ pub trait Rules {
     /// desk 0": bytes 6 and 7 of an asset with so many.
     fn narrowed(&self, count: u16) -> [u8; 2] {
         [count as u8, 0]
+    }
+
+    // The bills (C-14).
+
+    /// "The cost rate is in ten-thousandths, up to 1,000": "19 when the rate exceeds 1,000".
+    fn rate_accepted(&self, rate: u64) -> bool {
+        rate <= 1_000
+    }
+
+    /// "They are 256 amounts of eight bytes, and 16 compares that length."
+    fn bills_fit(&self, buffer: usize) -> bool {
+        buffer >= BILLS
+    }
+
+    /// "19 .., after 15": what 1 to 15 and 17 find of schedule and book, then 19, then 16.
+    fn first_of_bills(&self, found: [Option<Refusal>; 3]) -> Option<Refusal> {
+        found.into_iter().flatten().next()
+    }
+
+    /// "the exposure lines": covered parts and remainders. Document 01: "A linked asset's net is
+    /// unlimited and its mitigants unread."
+    fn has_exposure_lines(&self, asset: &Asset) -> bool {
+        !asset.linked
+    }
+
+    /// "each asset's covered parts": a covered part is the asset's at this place, and is billed to
+    /// its desk.
+    fn desk_of_part(&self, book: &Book, asset: Place, _part: &Exposure) -> u8 {
+        book.assets[usize::from(asset) - 1].desk
+    }
+
+    /// "in book order, each asset's covered parts before its remainder": the line with the least is
+    /// first. Of one asset's lines no bill shows the order, since all are billed to its desk.
+    fn serving_order(&self, line: &ExposureLine) -> [i128; 2] {
+        [i128::from(line.asset), i128::from(!line.covered)]
+    }
+
+    /// "Within a group's tier": whose account a line of the report, or an exposure line, is of.
+    fn account(&self, _counterparty: Place, top: Place, tier: Tier) -> (Place, Tier) {
+        (top, tier)
+    }
+
+    /// "what stands". Document 01: "what a cut leaves standing is exposure less cut".
+    fn stands(&self, line: &Line) -> i128 {
+        line.exposure - line.excess
+    }
+
+    /// "what stands is given to the exposure lines .. A line's unserved part is its excess."
+    fn unserved(&self, amount: i128, account: &Account) -> i128 {
+        amount - amount.min(account.left)
+    }
+
+    /// Of an exposure without limit nothing is cut.
+    fn excess_without_limit(&self, _amount: i128) -> i128 {
+        0
+    }
+
+    /// "The A3 excess goes to desk 0": what a desk has of it.
+    fn a3_excess(&self, desk: u8, excess: i128) -> i128 {
+        match desk {
+            0 => excess,
+            _ => 0,
+        }
+    }
+
+    /// "the running excess times the rate, rounded down", with the rate "in ten-thousandths".
+    fn cost(&self, excess: i128, rate: u64) -> i128 {
+        excess * i128::from(rate) / 10_000
+    }
+
+    /// "Desk by desk from 0, the cost is the running excess times the rate, rounded down, less the
+    /// same figure before that desk", where `cost` makes that figure.
+    fn bills(&self, excesses: &[DeskExcess; DESKS], cost: &dyn Fn(i128) -> i128) -> [i128; DESKS] {
+        let mut running = 0;
+        excesses.map(|excess| {
+            let before = cost(running);
+            running += excess.of_lines + excess.of_a3;
+            cost(running) - before
+        })
     }
 
     // Values (P16 to P20, P26, P27).

@@ -4,7 +4,7 @@
 use super::fraction::Fraction;
 use super::records::*;
 use super::rules::{Documents, Rules};
-use crate::weightrose::Refusal;
+use crate::weightrose::{Refusal, BILLS, DESKS};
 use std::collections::BTreeMap;
 
 macro_rules! slips {
@@ -15,9 +15,32 @@ macro_rules! slips {
         impl Slip {
             pub const ALL: &'static [Slip] = &[$(Slip::$name,)*];
 
-            /// Whether it is of the converter, and not of the report.
+            /// Whether it is of the report, and so of all that reads a schedule and a book.
+            pub fn of_report(self) -> bool {
+                !self.of_converter() && !self.of_bills()
+            }
+
+            /// Whether it is of the converter alone.
             pub fn of_converter(self) -> bool {
-                self as usize >= Slip::ConverterTakesVersion2 as usize
+                self as usize >= Slip::ConverterTakesVersion2 as usize && !self.of_bills()
+            }
+
+            /// Whether it is of the bills alone.
+            pub fn of_bills(self) -> bool {
+                self as usize >= Slip::CostRate1000Refused as usize
+            }
+
+            /// Whether it is of what a report alone has: figures and bytes that no bill reads.
+            pub fn of_report_alone(self) -> bool {
+                matches!(
+                    self,
+                    Slip::ExactBufferRefused
+                        | Slip::LinkedNotUnlimited
+                        | Slip::LinkedNotInAllNet
+                        | Slip::LinesWithoutExposure
+                        | Slip::TierSetWithoutLowest
+                        | Slip::TierSetOf13Bits
+                )
             }
         }
     };
@@ -178,6 +201,66 @@ slips! {
     ConvertedVersionInHighByte,
     ConvertedToDesk1,
     ConvertedCountInByte7,
+
+    // The bills: refusals.
+    CostRate1000Refused,
+    CostRate1001Passes,
+    CostRateOf16Bits,
+    CostRateOf32Bits,
+    CostRateSigned,
+    CostRateNotChecked,
+    CostRateBefore15,
+    CostRateBefore14,
+    CostRateBeforeTheBook,
+    CostRateFirst,
+    CostRateAfter16,
+    BillsShortBeforeTheBook,
+    BillsOfTheirLengthRefused,
+    BillsOneByteShortPass,
+    BillsOf255DesksPass,
+
+    // Whose they are.
+    DesksNotRead,
+    Version1Byte7AsDesk,
+    Version2Byte6AsDesk,
+    DeskOfSevenBits,
+    CoveredPartToDesk0,
+    CoveredPartToNextAssetsDesk,
+    CoveredPartToGuarantorsDesk,
+
+    // What is served.
+    ServedFromTheLastAsset,
+    AllPartsBeforeRemainders,
+    AllRemaindersBeforeParts,
+    ServedDeskByDesk,
+    ServedByCounterparty,
+    SmallestLinesFirst,
+    LargestLinesFirst,
+    AccountOfACounterparty,
+    AccountOfAGroup,
+    AccountOfATier,
+    StandsUpToItsLimit,
+    ExcessProRata,
+    LinesServedWholeOnly,
+    LinkedAssetsServed,
+    ExposuresWithoutLimitBilled,
+
+    // What is billed.
+    A3ExcessForgotten,
+    A3ExcessToDesk1,
+    A3ExcessToDesk255,
+    A3ExcessToEachDesk,
+    A3CostRoundedApart,
+    CostPerMille,
+    CostPercent,
+    CostRoundedUp,
+    CostRoundedToTheNearest,
+    EachBillRoundedByItself,
+    RoundingLeftToDesk0,
+    RoundingLeftToDesk255,
+    RunningCostBilled,
+    DesksFrom255,
+    Desk255LeftOut,
 }
 
 impl Slip {
@@ -208,6 +291,16 @@ impl Rules for Slip {
             Slip::Version2CountOfTwoBytes => Documents.count(1, bytes),
             Slip::Version1CountOfOneByte => Documents.count(2, bytes),
             _ => Documents.count(version, bytes),
+        }
+    }
+
+    fn desk(&self, version: u16, bytes: [u8; 2]) -> u8 {
+        match (self, version) {
+            (Slip::DesksNotRead, _) => 0,
+            (Slip::Version1Byte7AsDesk, 1) => bytes[1],
+            (Slip::Version2Byte6AsDesk, 2) => bytes[0],
+            (Slip::DeskOfSevenBits, 2) => bytes[1] & 127,
+            _ => Documents.desk(version, bytes),
         }
     }
 
@@ -356,6 +449,168 @@ impl Rules for Slip {
             Slip::ConvertedToDesk1 => [count as u8, 1],
             Slip::ConvertedCountInByte7 => [0, count as u8],
             _ => Documents.narrowed(count),
+        }
+    }
+
+    fn rate_accepted(&self, rate: u64) -> bool {
+        match self {
+            Slip::CostRate1000Refused => rate < 1_000,
+            Slip::CostRate1001Passes => rate <= 1_001,
+            Slip::CostRateOf16Bits => rate as u16 <= 1_000,
+            Slip::CostRateOf32Bits => rate as u32 <= 1_000,
+            Slip::CostRateSigned => rate as i64 <= 1_000,
+            Slip::CostRateNotChecked => true,
+            _ => Documents.rate_accepted(rate),
+        }
+    }
+
+    fn bills_fit(&self, buffer: usize) -> bool {
+        match self {
+            Slip::BillsOfTheirLengthRefused => buffer > BILLS,
+            Slip::BillsOneByteShortPass => buffer + 1 >= BILLS,
+            Slip::BillsOf255DesksPass => buffer + 8 >= BILLS,
+            _ => Documents.bills_fit(buffer),
+        }
+    }
+
+    fn first_of_bills(&self, found: [Option<Refusal>; 3]) -> Option<Refusal> {
+        let [of_book, rate, short] = found;
+        let number = of_book.map_or(0, Refusal::number);
+        match self {
+            Slip::CostRateBefore15 if number == 15 => rate.or(of_book),
+            Slip::CostRateBefore14 if matches!(number, 14 | 15) => rate.or(of_book),
+            Slip::CostRateBeforeTheBook if number >= 5 => rate.or(of_book),
+            Slip::CostRateFirst => rate.or(of_book).or(short),
+            Slip::CostRateAfter16 => of_book.or(short).or(rate),
+            Slip::BillsShortBeforeTheBook if number >= 5 => short.or(of_book),
+            _ => Documents.first_of_bills(found),
+        }
+    }
+
+    fn has_exposure_lines(&self, asset: &Asset) -> bool {
+        self.is(Slip::LinkedAssetsServed) || Documents.has_exposure_lines(asset)
+    }
+
+    fn desk_of_part(&self, book: &Book, asset: Place, part: &Exposure) -> u8 {
+        let right = Documents.desk_of_part(book, asset, part);
+        match self {
+            Slip::CoveredPartToDesk0 => 0,
+            Slip::CoveredPartToNextAssetsDesk => {
+                book.assets.get(usize::from(asset)).map_or(right, |next| next.desk)
+            }
+            Slip::CoveredPartToGuarantorsDesk => {
+                let mut assets = book.assets.iter();
+                let own = assets.find(|asset| asset.counterparty == part.counterparty);
+                own.map_or(right, |asset| asset.desk)
+            }
+            _ => right,
+        }
+    }
+
+    fn serving_order(&self, line: &ExposureLine) -> [i128; 2] {
+        let asset = i128::from(line.asset);
+        match self {
+            Slip::ServedFromTheLastAsset => [-asset, 0],
+            Slip::AllPartsBeforeRemainders => [i128::from(!line.covered), asset],
+            Slip::AllRemaindersBeforeParts => [i128::from(line.covered), asset],
+            Slip::ServedDeskByDesk => [i128::from(line.desk), asset],
+            Slip::ServedByCounterparty => [i128::from(line.counterparty), asset],
+            Slip::SmallestLinesFirst => [line.amount, asset],
+            Slip::LargestLinesFirst => [-line.amount, asset],
+            _ => Documents.serving_order(line),
+        }
+    }
+
+    fn account(&self, counterparty: Place, top: Place, tier: Tier) -> (Place, Tier) {
+        match self {
+            Slip::AccountOfACounterparty => (counterparty, tier),
+            Slip::AccountOfAGroup => (top, Tier::I),
+            Slip::AccountOfATier => (0, tier),
+            _ => Documents.account(counterparty, top, tier),
+        }
+    }
+
+    fn stands(&self, line: &Line) -> i128 {
+        match self {
+            Slip::StandsUpToItsLimit => line.exposure.min(line.limit),
+            _ => Documents.stands(line),
+        }
+    }
+
+    fn unserved(&self, amount: i128, account: &Account) -> i128 {
+        let right = Documents.unserved(amount, account);
+        match self {
+            Slip::ExcessProRata if account.exposure > 0 => {
+                amount * account.excess / account.exposure
+            }
+            Slip::LinesServedWholeOnly if right > 0 => amount,
+            _ => right,
+        }
+    }
+
+    fn excess_without_limit(&self, amount: i128) -> i128 {
+        match self {
+            Slip::ExposuresWithoutLimitBilled => amount,
+            _ => Documents.excess_without_limit(amount),
+        }
+    }
+
+    fn a3_excess(&self, desk: u8, excess: i128) -> i128 {
+        match (self, desk) {
+            (Slip::A3ExcessForgotten, _) => 0,
+            (Slip::A3ExcessToDesk1, _) => Documents.a3_excess(desk ^ 1, excess),
+            (Slip::A3ExcessToDesk255, _) => Documents.a3_excess(!desk, excess),
+            (Slip::A3ExcessToEachDesk, _) => excess,
+            _ => Documents.a3_excess(desk, excess),
+        }
+    }
+
+    fn cost(&self, excess: i128, rate: u64) -> i128 {
+        let right = Documents.cost(excess, rate);
+        let product = excess * i128::from(rate);
+        match self {
+            Slip::CostPerMille => product / 1_000,
+            Slip::CostPercent => product / 100,
+            Slip::CostRoundedUp => right + i128::from(product % 10_000 > 0),
+            Slip::CostRoundedToTheNearest => right + i128::from(product % 10_000 >= 5_000),
+            _ => right,
+        }
+    }
+
+    fn bills(&self, excesses: &[DeskExcess; DESKS], cost: &dyn Fn(i128) -> i128) -> [i128; DESKS] {
+        let right = Documents.bills(excesses, cost);
+        let all: i128 = right.iter().sum();
+        let own = excesses.map(|excess| cost(excess.of_lines + excess.of_a3));
+        let rounding = all - own.iter().sum::<i128>();
+        let with = |mut bills: [i128; DESKS], desk: usize, bill: i128| {
+            bills[desk] = bill;
+            bills
+        };
+        match self {
+            Slip::EachBillRoundedByItself => own,
+            Slip::RoundingLeftToDesk0 => with(own, 0, own[0] + rounding),
+            Slip::RoundingLeftToDesk255 => with(own, 255, own[255] + rounding),
+            Slip::A3CostRoundedApart => {
+                let lines = excesses.map(|excess| DeskExcess { of_a3: 0, ..excess });
+                let bills = Documents.bills(&lines, cost);
+                with(bills, 0, bills[0] + cost(excesses[0].of_a3))
+            }
+            Slip::RunningCostBilled => {
+                let mut running = 0;
+                right.map(|bill| {
+                    running += bill;
+                    running
+                })
+            }
+            Slip::DesksFrom255 => {
+                let mut turned = *excesses;
+                turned.reverse();
+                let mut bills = Documents.bills(&turned, cost);
+                bills.reverse();
+                bills
+            }
+            Slip::Desk255LeftOut => with(right, 255, 0),
+            _ => right,
         }
     }
 

@@ -6,7 +6,7 @@ use denote.Ref.{now}
 use Rattle.words.specs.Words.{sum}
 use Rattle.limit.specs.Bounds.{mostLimit}
 use Rattle.cascade.specs.Cascade.{byTier}
-use Rattle.cells.specs.Ranges.{sum-next}
+use Rattle.words.specs.Ranges.{sum-next}
 use Rattle.a3.specs.A3.{a3Part, a3At}
 use Rattle.a3.specs.Laws.{part-le}
 use Rattle.a3.proofs.sum.Statement.{statement}

@@ -1,0 +1,4 @@
+pub mod Chain
+pub mod Bounds
+pub mod Standing
+pub mod Written

@@ -1,0 +1,2 @@
+pub mod Billed
+pub mod Tables

@@ -1,0 +1,5 @@
+pub mod Sums
+pub mod Served
+pub mod Totals
+pub mod Running
+pub mod Serving

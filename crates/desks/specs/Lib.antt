@@ -1,0 +1,4 @@
+pub mod BookLines
+pub mod Pass
+pub mod LineLaws
+pub mod BookLaws

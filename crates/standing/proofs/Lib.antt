@@ -1,0 +1,2 @@
+pub mod Tiers
+pub mod Groups
