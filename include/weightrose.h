@@ -293,7 +293,7 @@ weightrose_convert(const uint8_t *book, size_t book_len,
  * WEIGHTROSE_LINE_EXCESS of the report's line. It is given to the exposure lines in that tier of
  * that group, asset by asset in book order: to each its whole amount, as long as so much is left;
  * to the next one the rest, and to those behind it nothing. What a line is not given is its excess.
- * Linked assets and exposures without limit have none, and are given nothing. A desk's excess is
+ * Linked assets have no lines, and exposures without limit no excess. A desk's excess is
  * the sum of its lines' excesses; that of desk 0 has besides, in books of either version, what
  * WEIGHTROSE_HEADER_A3_SUM has above WEIGHTROSE_HEADER_A3_LIMIT, if anything. All desks' excesses
  * add up to WEIGHTROSE_HEADER_CHARGE.

@@ -1,15 +1,14 @@
 -- How large the charge of an accepted book is at most: group excess and A3 sum are each at most all exposures, 900 × M (charge-few).
 use mathlib.Core.Bool.{Bool, true, false, not, _&&_}
 use mathlib.Core.List.{List}
-use mathlib.Core.Path.{_≡_, refl, ap, _∙_}
-use Prim.Native.Nat.{ℕ, _+_, _*_, _≤_, _<_}
+use mathlib.Core.Path.{_≡_}
+use Prim.Native.Nat.{ℕ, _+_, _*_, _≤_}
 use native.Mathlib.Omega.{arith}
 use Rattle.words.specs.Words.{_=?_, if_then_else_, sumOf, sum}
-use Rattle.words.specs.Sums.{sum-le, sum-same, sum-count, sum-most}
+use Rattle.words.specs.Sums.{sum-le, sum-count, sum-most}
 use Rattle.wire.specs.Bytes.{M}
 use Rattle.cascade.specs.Cascade.{tiers, excessSum}
 use Rattle.cascade.proofs.Fund.{excess-within}
-use Rattle.figures.specs.Fund.{Fund}
 use Rattle.figures.specs.Report.{ranking, excessOf, excessSumOf, groupExcess, charge}
 use Rattle.bills.specs.Tables.{mostExcess}
 use Rattle.schedule.specs.Schedule.{scheduleOf}

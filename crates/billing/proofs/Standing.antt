@@ -1,26 +1,26 @@
 -- The cells hold what stands in the fund: what the pass over the groups starts from (standable), and what it leaves for a line of the book (stands-at).
-use mathlib.Core.Bool.{Bool, true, false, _&&_}
+use mathlib.Core.Bool.{Bool, true, false}
 use mathlib.Core.List.{List}
-use mathlib.Core.Path.{_≡_, refl, sym, ap, _∙_}
+use mathlib.Core.Path.{_≡_, refl, sym, _∙_}
 use Prim.Native.Nat.{ℕ, _+_, _*_, _-_, _≤_, _<_}
 use native.Mathlib.Omega.{arith}
 use lib.Dec.{ltb}
-use lib.ListN.{length, getD}
+use lib.ListN.{getD}
 use borrow.Author.Tests.{lt-ltb, ltb-true, ltb-false}
-use Rattle.words.specs.Words.{_=?_, if_then_else_, sumOf, sum}
+use Rattle.words.specs.Words.{sum}
 use Rattle.words.specs.Sums.{sum-same, sum-each-same}
 use Rattle.words.specs.Ranges.{sum-within}
 use Rattle.wire.specs.Bytes.{M}
 use Rattle.cascade.specs.Cascade.{tiers, byTier, byLimit, ranked, excess}
 use Rattle.cascade.proofs.Ranking.{ranked-only, ranked-once}
-use Rattle.rows.specs.Rows.{mostGroups, columns, row, row-at}
+use Rattle.rows.specs.Rows.{columns, row, row-at}
 use Rattle.figures.specs.Fund.{Fund}
 use Rattle.figures.specs.AgreeLaws.{excess-same}
 use Rattle.bills.specs.Lines.{ExposureLine, tierExcess, standsIn}
 use Rattle.standing.specs.Standing.{Groups, Stood}
 use Rattle.schedule.specs.Schedule.{scheduleOf}
 use Rattle.book.specs.Records.{C, counterpartyAt}
-use Rattle.book.specs.Book.{bookOf, parentOf, topOf}
+use Rattle.book.specs.Book.{bookOf, parentOf}
 use Rattle.book.specs.Accepted.{Accepted}
 use Rattle.exposure.specs.declared.Exposure.{Exposure}
 use Rattle.exposure.specs.Parts.{exposures}
@@ -29,7 +29,7 @@ use Rattle.exposure.specs.Sums.{amountOf, exposureOf}
 use Rattle.columns.specs.ColumnLaws.{free-column}
 use Rattle.parties.specs.Rows.{topsTo, rowOf}
 use Rattle.parties.specs.RowLaws.{top-self, tops-le, lower}
-use Rattle.cells.specs.Cells.{columnAt, rowAt}
+use Rattle.cells.specs.Cells.{rowAt}
 use Rattle.cells.specs.GroupSums.{rows-le}
 use Rattle.fund.specs.declared.Fund as made
 use Rattle.fund.specs.Figures.{limitsOf, fundOf}

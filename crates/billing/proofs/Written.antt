@@ -2,13 +2,13 @@
 use mathlib.Core.Bool.{Bool, true, false}
 use mathlib.Core.List.{List, [], _++_, append-nil}
 use mathlib.Core.Path.{_≡_, refl, sym, ap, _∙_}
-use Prim.Native.Nat.{ℕ, zero, suc, _+_, _*_, _-_, _/_, _≤_, _<_, _^_}
+use Prim.Native.Nat.{ℕ, zero, suc, _+_, _*_, _-_, _≤_, _<_, _^_}
 use native.Mathlib.Omega.{arith}
 use lib.Dec.{eqb, ltb}
 use lib.ListN.{length, getD, set, drop, replicate, length-set, length-replicate, List·getD-eq-default}
 use lib.Seq.{getD-set-same, getD-set-other}
 use borrow.Author.Tests.{eqb-true, eqb-false, ltb-true, ltb-false}
-use Rattle.words.specs.Words.{_=?_, if_then_else_, sum, All}
+use Rattle.words.specs.Words.{if_then_else_, sum, All}
 use Rattle.words.specs.Sums.{sum-same, all-map}
 use Rattle.words.specs.Ranges.{sum-within}
 use Rattle.wire.specs.Bytes.{placed}
@@ -21,7 +21,7 @@ use Rattle.figures.specs.LeastCuts.{TierOf}
 use Rattle.figures.proofs.Written.{charge-in}
 use Rattle.figures.proofs.Least.{excess-read}
 use Rattle.bills.specs.Lines.{ExposureLine, amountIn, standsIn, excessLines}
-use Rattle.bills.specs.Bills.{deskCount, mostRate, billsSize, amountOfDesk, a3Excess, deskExcess, costOf, billBytes}
+use Rattle.bills.specs.Bills.{deskCount, mostRate, billsSize, a3Excess, deskExcess, costOf, billBytes}
 use Rattle.bills.specs.Tables.{LinesOf, byDesk, mostExcess, desksAfter}
 use Rattle.bills.proofs.Totals.{line-excess, desks-charge}
 use Rattle.bills.proofs.Running.{bills-length, read-bills, bills-same}
@@ -41,12 +41,12 @@ use Rattle.fund.specs.Tables.{FundTables}
 use Rattle.fund.specs.Figures.{fundOf}
 use Rattle.fund.proofs.Limits.{taken}
 use Rattle.report.specs.Answer.{fundIn, reportOf}
-use Rattle.desks.specs.BookLines.{lineOf, bookLines}
+use Rattle.desks.specs.BookLines.{lineOf}
 use Rattle.standing.specs.Standing.{Stood}
 use Rattle.desks.specs.Pass.{lineCell, linesAt, Lined, Served}
 use Rattle.desks.specs.LineLaws.{InBook, line-in, line-small, cells-apart, all-lines}
 use Rattle.desks.specs.BookLaws.{lines-excess, desk-few, book-lines}
-use Rattle.billing.specs.Billed.{linesOf, excessIn, billsOf, billIn, AddUp, Billed}
+use Rattle.billing.specs.Billed.{linesOf, excessIn, billsOf, AddUp, Billed}
 use Rattle.billing.specs.Tables.{Excesses}
 use Rattle.billing.proofs.Bounds.{charge-few}
 use Rattle.billing.proofs.Standing.{stands-at}

@@ -1,3 +1,4 @@
 pub mod Lines
 pub mod Bills
 pub mod Tables
+mod Cases

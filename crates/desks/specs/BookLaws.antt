@@ -9,7 +9,7 @@ use Prim.Native.Nat.{ℕ, zero, suc, _+_, _-_, _≤_, _<_}
 use native.Mathlib.Omega.{arith}
 use lib.ListN.{getD}
 use Rattle.words.specs.Words.{_=?_, if_then_else_, sumOf, eachOf, All}
-use Rattle.words.specs.Choice.{by-test, if-le}
+use Rattle.words.specs.Choice.{by-test}
 use Rattle.words.specs.Sums.{sum-each, sum-each-same, sum-map, all-map, all-append, all-mapped}
 use Rattle.cascade.specs.Cascade.{tiers}
 use Rattle.wire.specs.Bytes.{byteAt}

@@ -5,8 +5,8 @@
 --   cells-apart             cells tell groups and tiers apart
 --   all-from all-lines      what holds of every exposure's line holds of the lines at the places
 use mathlib.Core.Bool.{Bool, true, false, _&&_}
-use mathlib.Core.List.{List, [], _∷_, _++_, map}
-use mathlib.Core.Path.{_≡_, refl, sym, ap, ap₂, _∙_}
+use mathlib.Core.List.{List, [], _∷_, _++_}
+use mathlib.Core.Path.{_≡_, refl, sym, ap, _∙_}
 use Prim.Native.Nat.{ℕ, zero, suc, _+_, _*_, _-_, _≤_, _<_}
 use native.Mathlib.Omega.{arith}
 use lib.Dec.{eqb}
@@ -18,7 +18,7 @@ use Rattle.cascade.specs.Cascade.{tiers}
 use Rattle.rows.specs.Rows.{columns}
 use Rattle.bills.specs.Lines.{ExposureLine, isIn}
 use Rattle.book.specs.Records.{C, N, K, counterpartyAt, assetAt}
-use Rattle.book.specs.Book.{parentOf, topOf, holdingsFrom}
+use Rattle.book.specs.Book.{parentOf, holdingsFrom}
 use Rattle.book.specs.TopLaws.{top-le, top-pos}
 use Rattle.book.specs.Check.{countsAdd}
 use Rattle.book.specs.Accepted.{Accepted}
@@ -32,7 +32,7 @@ use Rattle.parties.specs.RowLaws.{top-alone, top-self, top-top, same-row, row-s
 use Rattle.covering.specs.Covered.{heldBy}
 use Rattle.covering.specs.ByPlace.{partsAt}
 use Rattle.cells.specs.Cells.{columnAt}
-use Rattle.cells.specs.CellLaws.{Inside, part-inside, rest-inside, cell-parts}
+use Rattle.cells.specs.CellLaws.{Inside, part-inside, cell-parts}
 use Rattle.desks.specs.BookLines.{lineOf}
 use Rattle.desks.specs.Pass.{lineCell, partLines, restLine, assetLines, linesAt}
 

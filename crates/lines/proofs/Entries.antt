@@ -6,7 +6,7 @@ use native.Mathlib.Omega.{arith}
 use lib.Count.{ones, ones-le}
 use lib.ListN.{length, length-map}
 use Rattle.words.specs.Words.{_<?_, if_then_else_, sum, sumOf, eachOf, those, countFrom, All}
-use Rattle.words.specs.Sums.{sum-each, sum-same, sum-count, sum-length, length-each, length-count, all-map, all-count}
+use Rattle.words.specs.Sums.{sum-each, sum-map, sum-agree, sum-same, sum-count, sum-length, length-each, length-count, all-map, all-mapped, all-count}
 use Rattle.cascade.specs.Cascade.{tiers, byTier}
 use Rattle.figures.proofs.Size.{bits-lt, bits-ones}
 use Rattle.rows.specs.Rows.{columns, row, row-at}
@@ -14,7 +14,7 @@ use Rattle.lines.specs.Table.{setOf}
 use Rattle.lines.specs.Listing.{entry, groupIn, tierIn, exposureIn, shown, allEntries, entriesOf, Source}
 use Rattle.cascade.specs.Promise.{Once}
 use Rattle.lines.specs.Promise.{Inside, allExposures}
-use Rattle.lines.proofs.Tries.{those-each, those-all, those-same, those-count, those-sum, sum-map, mapped, each-all, sums-same}
+use Rattle.lines.proofs.Tries.{those-each, those-all, those-same, those-count, those-sum, each-all}
 
 -- the entry of tier t of group number k
 module _ (k t : ℕ) (l : t < tiers) where
@@ -37,7 +37,7 @@ entries-each cells groups ranking = those-each (shown cells) (λ k. map (entry k
 module _ (ranking : List ℕ) (h : All (λ t. t < tiers) ranking) where
   -- what holds of each tier of group k holds of its entries
   pub entries-all : (P : ℕ → Type 0) (k : ℕ) → ((t : ℕ) → t < tiers → P (entry k t)) → All P (map (entry k) ranking)
-  entries-all P k f = mapped P (entry k) ranking (all-map f ranking h)
+  entries-all P k f = all-mapped P (entry k) ranking (all-map f ranking h)
 
   -- the test of a row is that of the table
   pub shown-row : (cells : List ℕ) (k : ℕ) → All (λ e. (0 <? byTier (row cells k) (tierIn e)) ≡ shown cells e) (map (entry k) ranking)
@@ -75,7 +75,7 @@ module _ (ranking : List ℕ) (o : Once tiers ranking) where
       let g : ℕ → ℕ = λ t. if 0 <? byTier exposures t then 1 else 0 in
       those-count (λ e. 0 <? byTier exposures (tierIn e)) (map (entry k) ranking)
       ∙ sum-map f (entry k) ranking
-      ∙ sums-same (λ t. f (entry k t)) g ranking (all-map (λ t l. ap g (tier-in k t l)) ranking (o .inside))
+      ∙ sum-agree (λ t. f (entry k t)) g ranking (all-map (λ t l. ap g (tier-in k t l)) ranking (o .inside))
       ∙ o .once g ∙ sym (bits-ones (λ t. 0 <? byTier exposures t) tiers)
 
   pub row-ones : (cells : List ℕ) (k : ℕ) → length (groupEntries cells ranking k) ≡ ones (setOf (row cells k))
@@ -107,7 +107,7 @@ module _ (ranking : List ℕ) (o : Once tiers ranking) where
       one : (k : ℕ) → sumOf (exposureIn cells) (map (entry k) ranking) ≡ sum (byTier (row cells k)) tiers
       one k =
           sum-map (exposureIn cells) (entry k) ranking
-          ∙ sums-same (λ t. exposureIn cells (entry k t)) (byTier (row cells k)) ranking (all-map (λ t l. exposure-in k t l cells) ranking (o .inside))
+          ∙ sum-agree (λ t. exposureIn cells (entry k t)) (byTier (row cells k)) ranking (all-map (λ t l. exposure-in k t l cells) ranking (o .inside))
           ∙ o .once (byTier (row cells k))
 
   pub entries-sum : (cells : List ℕ) (groups : ℕ) → sumOf (exposureIn cells) (entriesOf cells groups ranking) ≤ allExposures cells groups

@@ -1,7 +1,7 @@
 -- The elements of a list that pass a test; and entries that are tried: what stands where the place moved on.
 use mathlib.Core.Path.{_≡_, refl, ap, _∙_}
 use mathlib.Core.Bool.{Bool, true, false}
-use mathlib.Core.List.{List, [], _∷_, _++_, append-assoc, append-nil, map}
+use mathlib.Core.List.{List, [], _∷_, _++_, append-assoc, append-nil}
 use Prim.Native.Nat.{ℕ, suc, _+_, _≤_, _<_}
 use native.Mathlib.Numerals.{add-one}
 use native.Mathlib.Nat.{add-zero}
@@ -9,6 +9,7 @@ use native.Mathlib.Omega.{arith}
 use lib.ListN.{length, take, set, length-set}
 use lib.Seq.{take-suc-set, take-set-le}
 use Rattle.words.specs.Words.{if_then_else_, sumOf, eachOf, those, All}
+use Rattle.words.specs.Sums.{all-append}
 use Rattle.lines.specs.Listing.{tried}
 
 -- ---- those
@@ -62,30 +63,11 @@ unfolding those
 those-same test other [] h = refl
 those-same test other (x ∷ xs) h = rw (h .0, those-same test other xs (h .1))
 
-pub sum-map : (f g : ℕ → ℕ) (xs : List ℕ) → sumOf f (map g xs) ≡ sumOf (λ x. f (g x)) xs
-unfolding sumOf
-sum-map f g [] = refl
-sum-map f g (x ∷ xs) = ap (λ (n : ℕ). f (g x) + n) (sum-map f g xs)
-
-pub mapped : (P : ℕ → Type 0) (g : ℕ → ℕ) (xs : List ℕ) → All (λ x. P (g x)) xs → All P (map g xs)
-mapped P g [] h = tt
-mapped P g (x ∷ xs) h = (h .0, mapped P g xs (h .1))
-
-pub all-append : (P : ℕ → Type 0) (xs ys : List ℕ) → All P xs → All P ys → All P (xs ++ ys)
-all-append P [] ys h k = k
-all-append P (x ∷ xs) ys h k = (h .0, all-append P xs ys (h .1) k)
-
 -- what holds of all that each element gives
 pub each-all : (P Q : ℕ → Type 0) (g : ℕ → List ℕ) → ((k : ℕ) → Q k → All P (g k)) → (ks : List ℕ) → All Q ks → All P (eachOf g ks)
 unfolding eachOf
 each-all P Q g f [] h = tt
 each-all P Q g f (k ∷ ks) h = all-append P (g k) (eachOf g ks) (f k (h .0)) (each-all P Q g f ks (h .1))
-
--- sums that agree on every element
-pub sums-same : (f g : ℕ → ℕ) (xs : List ℕ) → All (λ x. f x ≡ g x) xs → sumOf f xs ≡ sumOf g xs
-unfolding sumOf
-sums-same f g [] h = refl
-sums-same f g (x ∷ xs) h = rw (h .0, sums-same f g xs (h .1))
 
 -- ---- tried
 

@@ -1,5 +1,5 @@
 -- `desks::serve` meets its contract. The loop's invariant: the tables, served along the lines of the assets still to come, are those of all lines.
-use mathlib.Core.Path.{_≡_, refl, _∙_}
+use mathlib.Core.Path.{_≡_, refl}
 use Prim.Native.Nat.{ℕ, _+_, _-_, _≤_, _<_}
 use native.Mathlib.Omega.{arith}
 use lib.ListN.{getD}

@@ -1,7 +1,6 @@
 -- `desks::serve_parts` meets its contract. The loop's invariant: the tables, served along the parts still to come, are those of all.
 use Prim.Native.Nat.{_-_}
 use native.Mathlib.Omega.{arith}
-use denote.Ref.{now}
 use borrow.Author.Needs.{needs}
 use Rattle.desks.proofs.Lines.{OnParts, parts-start, parts-served, part-at, part-room, part-step}
 use Rattle.desks.proofs.serve_parts.Statement.{statement}
