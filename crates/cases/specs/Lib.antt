@@ -14,3 +14,4 @@ pub mod Faults
 pub mod Edges
 pub mod Buffer
 pub mod Desks
+pub mod Bills
