@@ -28,7 +28,7 @@ use Rattle.exposure.specs.Tier.{tierOf}
 use Rattle.exposure.specs.Sums.{amountOf, exposureOf}
 use Rattle.columns.specs.ColumnLaws.{free-column}
 use Rattle.parties.specs.Rows.{topsTo, rowOf}
-use Rattle.parties.specs.RowLaws.{top-self, tops-le, lower}
+use Rattle.parties.specs.RowLaws.{tops-le, lower}
 use Rattle.cells.specs.Cells.{rowAt}
 use Rattle.cells.specs.GroupSums.{rows-le}
 use Rattle.fund.specs.declared.Fund as made
@@ -36,7 +36,7 @@ use Rattle.fund.specs.Figures.{limitsOf, fundOf}
 use Rattle.fund.specs.Fund.{Exposed, RatedAs}
 use Rattle.report.specs.Answer.{fundIn}
 use Rattle.desks.specs.Pass.{lineCell}
-use Rattle.desks.specs.LineLaws.{InBook}
+use Rattle.desks.specs.LineLaws.{InBook, row-number}
 
 module _ {schedule b : List ℕ} {groups : ℕ} {f : made.Fund} {cells : List ℕ} (acc : Accepted b) (eg : groups ≡ topsTo b (C b)) (r : RatedAs schedule b f) (x : Exposed b groups cells) where
   -- a row is at most all of them
@@ -63,8 +63,7 @@ module _ {schedule b : List ℕ} {groups : ℕ} {f : made.Fund} {cells : List �
       k = topsTo b (g - 1)
 
       number : rowOf b g ≡ columns * k
-      unfolding rowOf
-      number = rw (top-self (counterpartyAt b) g alone)
+      number = row-number b g alone
 
       inside : k < groups
       inside = omega (arith, eg, lower b g (C b) l h alone)

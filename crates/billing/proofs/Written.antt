@@ -52,7 +52,8 @@ use Rattle.billing.proofs.Bounds.{charge-few}
 use Rattle.billing.proofs.Standing.{stands-at}
 use Rattle.billing.proofs.Chain.{fine}
 
-at-zeros : (n q : ℕ) → _≡_ {A = ℕ} (getD (replicate n 0) q 0) 0
+-- a table of zeros has 0 at every entry, and past its end
+pub at-zeros : (n q : ℕ) → _≡_ {A = ℕ} (getD (replicate n 0) q 0) 0
 at-zeros zero q = refl
 at-zeros (suc n) zero = refl
 at-zeros (suc n) (suc q) = at-zeros n q

@@ -28,17 +28,13 @@ use Rattle.cells.specs.Cells.{columnAt, cellOf, partAt, Rowed}
 use Rattle.cells.specs.CellLaws.{Inside, rest-cell}
 use Rattle.desks.specs.BookLines.{lineOf}
 use Rattle.desks.specs.Pass.{Tiered, lineCell, partLines, restLine, assetLines, linesAt, Lined, PartsServed, Served}
-use Rattle.desks.specs.LineLaws.{line-in, line-cell, line-small, all-from}
+use Rattle.desks.specs.LineLaws.{line-in, line-cell, line-small, rest-in, all-from}
 use Rattle.desks.specs.BookLaws.{desk-few}
 
 module _ {b : List ℕ} (acc : Accepted b) where
   part-in : (place amount : ℕ) → 0 < place → place ≤ K b → Inside b (partAt b place amount)
   unfolding coveredPart
   part-in place amount l h = let m = acc .mitigant place l h in record { low = m .low; high = m .high }
-
-  rest-in : (place amount : ℕ) → 0 < place → place ≤ N b → Inside b (remainder (assetAt b place) amount)
-  unfolding remainder
-  rest-in place amount l h = let a = acc .asset place l h in record { low = a .low; high = a .high }
 
   -- ---- one line
 
@@ -244,7 +240,7 @@ module _ {b covered rests still₀ desks₀ still desks : List ℕ} {place first
         rest = remainder (assetAt b place) (getD rests place 0)
 
         inside-rest : Inside b rest
-        inside-rest = rest-in acc place (getD rests place 0) (o .low) l
+        inside-rest = rest-in b acc place (getD rests place 0) (o .low) l
 
         -- its cell, out of its row and its place
         module _ {row q cell : ℕ} (er : row ≡ rowOf b (assetAt b place .counterparty)) (eq : q ≡ restCell b place) (c : cell ≡ row + tierIn (q - row)) where

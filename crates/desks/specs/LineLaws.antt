@@ -2,7 +2,8 @@
 --   InBook                  a line of a group and a tier or no limit
 --   line-in                 the line of an exposure to a counterparty of the book
 --   line-cell line-small    its cell, out of the exposure's row and column; that is in a row of one of the groups
---   cells-apart             cells tell groups and tiers apart
+--   row-number cells-apart  the row of a top place; cells tell groups and tiers apart
+--   rest-in                 what is left of an asset is an exposure to a counterparty of the book
 --   all-from all-lines      what holds of every exposure's line holds of the lines at the places
 use mathlib.Core.Bool.{Bool, true, false, _&&_}
 use mathlib.Core.List.{List, [], _∷_, _++_}
@@ -60,15 +61,15 @@ module _ (b : List ℕ) where
   unfolding lineCell
   line-small x i = omega (arith, row-small b (C b) (x .group) (i .low) (i .high), i .tier)
 
-  module _ (g h : ℕ) (l : 0 < g) (k : 0 < h) (p : parentOf (counterpartyAt b) g ≡ 0) (q : parentOf (counterpartyAt b) h ≡ 0) where
-    number : (n : ℕ) → parentOf (counterpartyAt b) n ≡ 0 → rowOf b n ≡ columns * topsTo b (n - 1)
-    unfolding rowOf
-    number n e = rw (top-self (counterpartyAt b) n e)
+  pub row-number : (g : ℕ) → parentOf (counterpartyAt b) g ≡ 0 → rowOf b g ≡ columns * topsTo b (g - 1)
+  unfolding rowOf
+  row-number g alone = rw (top-self (counterpartyAt b) g alone)
 
+  module _ (g h : ℕ) (l : 0 < g) (k : 0 < h) (p : parentOf (counterpartyAt b) g ≡ 0) (q : parentOf (counterpartyAt b) h ≡ 0) where
     same-number : topsTo b (g - 1) ≡ topsTo b (h - 1) → g ≡ h
     same-number e =
         let cs = counterpartyAt b in
-        sym (top-self cs g p) ∙ same-row b g h l k (number g p ∙ ap (λ (n : ℕ). columns * n) e ∙ sym (number h q)) ∙ top-self cs h q
+        sym (top-self cs g p) ∙ same-row b g h l k (row-number g p ∙ ap (λ (n : ℕ). columns * n) e ∙ sym (row-number h q)) ∙ top-self cs h q
 
     groups-apart : (topsTo b (g - 1) =? topsTo b (h - 1)) ≡ (g =? h)
     groups-apart = by (eqb g h) refl
@@ -79,7 +80,7 @@ module _ (b : List ℕ) where
 
     rows-apart : (t u : ℕ) → t < columns → u < columns → (rowOf b g + t =? rowOf b h + u) ≡ (g =? h && t =? u)
     rows-apart t u c d =
-        rw (number g p, number h q) (cell-parts (topsTo b (g - 1)) t (topsTo b (h - 1)) u c d ∙ ap (λ (s : Bool). s && t =? u) groups-apart)
+        rw (row-number g p, row-number h q) (cell-parts (topsTo b (g - 1)) t (topsTo b (h - 1)) u c d ∙ ap (λ (s : Bool). s && t =? u) groups-apart)
 
   pub cells-apart : (x y : ExposureLine) → InBook x → InBook y → (lineCell b x =? lineCell b y) ≡ isIn (y .group) (y .tier) x
   unfolding lineCell
@@ -87,6 +88,10 @@ module _ (b : List ℕ) where
       rows-apart (x .group) (y .group) (i .low) (j .low) (i .alone) (j .alone) (x .tier) (y .tier) (omega (arith, i .tier)) (omega (arith, j .tier))
 
   -- ---- the lines at the places
+
+  pub rest-in : Accepted b → (place amount : ℕ) → 0 < place → place ≤ N b → Inside b (remainder (assetAt b place) amount)
+  unfolding remainder
+  rest-in acc place amount l h = let a = acc .asset place l h in record { low = a .low; high = a .high }
 
   module _ (acc : Accepted b) (covered rests : List ℕ) (P : ExposureLine → Type 0) where
     abbrev OfLine : Type 0
@@ -98,10 +103,6 @@ module _ (b : List ℕ) where
         let xs = partsAt b covered first more in
         all-mapped P (lineOf (counterpartyAt b) (assetAt b place .desk)) xs (all-map (f place) xs (part-inside b acc covered more first l h))
 
-    rest-in : (place : ℕ) → 0 < place → place ≤ N b → Inside b (remainder (assetAt b place) (getD rests place 0))
-    unfolding remainder
-    rest-in place l h = let a = acc .asset place l h in record { low = a .low; high = a .high }
-
     pub all-from : (more place first : ℕ) → OfLine → 0 < place → place + more ≤ N b + 1 → 0 < first → first + heldBy (holdingsFrom b place first more) ≤ K b + 1 → All P (linesAt b covered rests place first more)
     unfolding linesAt assetLines holdingsFrom sumOf
     all-from zero place first f l h k c = tt
@@ -109,7 +110,7 @@ module _ (b : List ℕ) where
         let count = assetAt b place .count in
         let parts = partLines b covered (assetAt b place .desk) first count in
         all-append P (parts ++ (restLine b rests place ∷ [])) (linesAt b covered rests (place + 1) (first + count) more)
-        (all-append P parts (restLine b rests place ∷ []) (all-parts place first count f k (omega arith)) (f place _ (rest-in place l (omega arith)), tt))
+        (all-append P parts (restLine b rests place ∷ []) (all-parts place first count f k (omega arith)) (f place _ (rest-in acc place (getD rests place 0) l (omega arith)), tt))
         (all-from more (place + 1) (first + count) f (omega arith) (omega arith) (omega arith) (omega arith))
 
     pub all-lines : OfLine → All P (linesAt b covered rests 1 1 (N b))

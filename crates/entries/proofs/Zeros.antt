@@ -1,9 +1,9 @@
 -- Tables of zeros.
 use mathlib.Core.List.{List}
-use mathlib.Core.Path.{_≡_, refl}
-use Prim.Native.Nat.{ℕ, zero, suc, _+_, _*_, _≤_, _<_}
+use mathlib.Core.Path.{_≡_}
+use Prim.Native.Nat.{ℕ, _+_, _*_, _≤_, _<_}
 use native.Mathlib.Omega.{arith}
-use lib.ListN.{length, getD, replicate, length-replicate}
+use lib.ListN.{length, replicate, length-replicate}
 use Rattle.book.specs.Records.{C, N, K}
 use Rattle.rows.specs.Rows.{columns}
 use Rattle.parties.specs.Rows as parties
@@ -13,11 +13,7 @@ use Rattle.cascade.specs.Cascade.{tiers}
 use Rattle.cells.specs.Cells.{Zeros}
 use Rattle.fund.specs.Fund.{Lent}
 use Rattle.report.specs.Tables.{Room}
-
-at-zeros : (n q : ℕ) → _≡_ {A = ℕ} (getD (replicate n 0) q 0) 0
-at-zeros zero q = refl
-at-zeros (suc n) zero = refl
-at-zeros (suc n) (suc q) = at-zeros n q
+use Rattle.billing.proofs.Written.{at-zeros}
 
 long : (n : ℕ) → length (replicate {A = ℕ} n 0) ≡ n
 long n = length-replicate {A = ℕ} n 0
