@@ -29,6 +29,15 @@ extern "C" {
 
 /* Bytes of a schedule: a header of 10, and 8 rows of 14. */
 #define WEIGHTROSE_SCHEDULE_SIZE 122
+#define WEIGHTROSE_SCHEDULE_HEADER_SIZE 10
+#define WEIGHTROSE_SCHEDULE_ROWS 8
+#define WEIGHTROSE_SCHEDULE_ROW_SIZE 14
+
+/* The versions of a schedule, by the unit of its rates, and the most that a rate of each may be. */
+#define WEIGHTROSE_SCHEDULE_PER_MILLE 1
+#define WEIGHTROSE_SCHEDULE_TEN_THOUSANDTHS 2
+#define WEIGHTROSE_MOST_RATE_PER_MILLE 1500
+#define WEIGHTROSE_MOST_RATE_TEN_THOUSANDTHS 15000
 
 /* Bytes of a book's header and of its records. A book is a header, then counterparties, then
  * assets, then mitigants. */
@@ -71,11 +80,12 @@ extern "C" {
  *
  * Schedule
  *    0  "ACL" and a zero byte
- *    4  u16  version, 1
+ *    4  u16  version, 1 or 2
  *    6  u16  percent of a limit kept after the first downgrade step, at most 100
  *    8  u16  the same after the second
  *   10       rows c, d, e, f, g, h, i of Attachment A, paragraph 1, and z for its paragraph 3:
- *            0  u16  VAF rate, per mille, at most 1,500
+ *            0  u16  VAF rate: version 1 per mille, at most 1,500; version 2 in ten-thousandths,
+ *                    at most 15,000
  *            2  u16  second VAF rate, likewise
  *            4  u16  capital base rate, likewise
  *            6  u64  fixed amount
@@ -128,6 +138,20 @@ extern "C" {
  */
 
 /*
+ * Versions of a schedule. The unit of its rates, with the most that one may be, is all that the
+ * two versions have apart: the three rates of each of the eight rows are per mille in version 1
+ * and in ten-thousandths in version 2, where 4.37 per cent is 437. A schedule is read by the
+ * version that it states, whatever that of the book, and the same numbers are other limits in the
+ * other version. Percents are per cent, and fixed amounts cents, in both. The three tiers of
+ * specialist funds keep their 500, 330 and 170 per mille of VAF' under schedules of either
+ * version. The published schedule is of version 1. A schedule of version 1 becomes one of version
+ * 2 by a 2 in byte 4 and ten times each of its 24 rates, and by nothing else: under both of them
+ * every book gets the same answer and the same bytes, of the report and of the bills. The way back
+ * is open where ten divides each rate. The cost rate of weightrose_bills() is no part of a
+ * schedule and is in ten-thousandths always.
+ */
+
+/*
  * Versions of a book. Bytes 6 and 7 of an asset are all that the two versions have apart, and a
  * book is read by the version that its header states. No report reads a desk: two books that
  * differ in desks alone get the same report, byte for byte. weightrose_bills() alone reads them.
@@ -170,9 +194,10 @@ enum weightrose_refusal {
 	WEIGHTROSE_SCHEDULE_LENGTH = 1,
 	/* The schedule does not start with "ACL" and a zero byte. */
 	WEIGHTROSE_SCHEDULE_MARK = 2,
-	/* The schedule's version is not 1. */
+	/* The schedule's version is neither 1 nor 2. */
 	WEIGHTROSE_SCHEDULE_VERSION = 3,
-	/* The schedule has a rate over 1,500, a percent over 100 or a fixed amount over the most. */
+	/* The schedule has a rate over 1,500 (over 15,000 in version 2), a percent over 100 or a fixed
+	 * amount over the most. */
 	WEIGHTROSE_SCHEDULE_RATES = 4,
 	/* The book is shorter than its header of 40 bytes. */
 	WEIGHTROSE_BOOK_LENGTH = 5,
@@ -312,7 +337,7 @@ weightrose_bills(const uint8_t *schedule, size_t schedule_len,
 
 /*
  * weightrose_published() writes the published schedule (LPS 117, Attachment A, paragraphs 1 to 3),
- * 122 bytes, at 'schedule' and returns 122; bytes behind these stay as they were. If
+ * of version 1, 122 bytes, at 'schedule' and returns 122; bytes behind these stay as they were. If
  * 'schedule_len' is below 122, it returns 0 and changes nothing. The schedule it writes is always
  * accepted by weightrose_report() and weightrose_bills().
  */
@@ -353,7 +378,7 @@ enum weightrose_line_field {
 
 /* The tiers by their numbers: the items of Attachment A, paragraph 1, with reinsurance apart, and
  * the steps after a downgrade of its paragraph 2; then the retrocessions of specialist funds
- * (paragraph 46), at 500, 330 and 170 per mille of VAF' whatever the schedule. */
+ * (paragraph 46), at 500, 330 and 170 per mille of VAF' whatever the schedule and its version. */
 enum weightrose_tier {
 	WEIGHTROSE_TIER_I = 0,
 	WEIGHTROSE_TIER_I_REINSURANCE = 1,

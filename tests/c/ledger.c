@@ -5,9 +5,10 @@
  * report, walks the report's lines and prints them, and names every refusal in a sentence. It
  * checks itself against document 01's figures (T2, T4, T5 and the table of refusals) and those of
  * document 02's specialist funds (C-11), converts its book to version 2 and books its assets by
- * desk (C-13), bills the desks for the capital that their excesses tie up (C-14), and ends with
- * status 1 where anything differs. Each block is as long as its bytes, so that a memory checker sees
- * any byte read or written past its end.
+ * desk (C-13), bills the desks for the capital that their excesses tie up (C-14), moves its
+ * schedule to rates in ten-thousandths (C-15), and ends with status 1 where anything differs. Each
+ * block is as long as its bytes, so that a memory checker sees any byte read or written past its
+ * end.
  */
 #include "weightrose.h"
 
@@ -475,7 +476,7 @@ static void
 byte_refusals(void)
 {
 	expect_schedule_refused(2, 'B', WEIGHTROSE_SCHEDULE_MARK);
-	expect_schedule_refused(4, 2, WEIGHTROSE_SCHEDULE_VERSION);
+	expect_schedule_refused(4, 3, WEIGHTROSE_SCHEDULE_VERSION);
 	expect_schedule_refused(11, 6, WEIGHTROSE_SCHEDULE_RATES); /* row c's rate: 250 + 6 * 256 */
 	expect_book_refused(&empty_ledger, 12, 2, WEIGHTROSE_BOOK_MARK, 0);
 	expect_book_refused(&empty_ledger, 4, 0, WEIGHTROSE_BOOK_VERSION, 0);
@@ -584,19 +585,28 @@ specialist_fund(void)
 
 /* ---- Books of version 2 ---- */
 
-/* The report of a book under the published schedule, in a block of its length. */
+/* The report of a book under a schedule, in a block of its length. */
 static struct block
-report_of(struct block book)
+report_under(struct block schedule, struct block book)
 {
-	struct block schedule = new_schedule();
 	struct block room = new_block(WEIGHTROSE_MOST_REPORT_SIZE);
 	uint64_t answer = weightrose_report(schedule.bytes, schedule.length, book.bytes, book.length,
 					    room.bytes, room.length);
 
 	expect(weightrose_refusal_of(answer) == WEIGHTROSE_ACCEPTED, "a book was refused");
 	room.length = weightrose_length_of(answer);
-	free(schedule.bytes);
 	return room;
+}
+
+/* The same under the published schedule. */
+static struct block
+report_of(struct block book)
+{
+	struct block schedule = new_schedule();
+	struct block report = report_under(schedule, book);
+
+	free(schedule.bytes);
+	return report;
 }
 
 static void
@@ -765,11 +775,10 @@ expect_not_billed(struct block book, uint64_t rate, size_t room, enum weightrose
 	free(bills.bytes);
 }
 
-/* The bills of a book, in a block of their length; the caller frees it. */
+/* The bills of a book under a schedule, in a block of their length; the caller frees it. */
 static struct block
-new_bills(struct block book, uint64_t rate)
+new_bills(struct block schedule, struct block book, uint64_t rate)
 {
-	struct block schedule = new_schedule();
 	struct block bills = new_block(WEIGHTROSE_BILLS_SIZE);
 	uint64_t answer = weightrose_bills(schedule.bytes, schedule.length, book.bytes, book.length,
 					   rate, bills.bytes, bills.length);
@@ -780,7 +789,6 @@ new_bills(struct block book, uint64_t rate)
 	if (weightrose_refusal_of(answer) != WEIGHTROSE_ACCEPTED)
 		exit(EXIT_FAILURE);
 	expect(weightrose_length_of(answer) == WEIGHTROSE_BILLS_SIZE, "C-14: the bills' length");
-	free(schedule.bytes);
 	return bills;
 }
 
@@ -789,8 +797,9 @@ new_bills(struct block book, uint64_t rate)
 static void
 expect_bills(struct block book, uint64_t rate, const struct bill *expected, size_t count)
 {
-	struct block report = report_of(book);
-	struct block bills = new_bills(book, rate);
+	struct block schedule = new_schedule();
+	struct block report = report_under(schedule, book);
+	struct block bills = new_bills(schedule, book, rate);
 	uint64_t charge = weightrose_u64(report.bytes + WEIGHTROSE_HEADER_CHARGE);
 	uint64_t sum = 0;
 	unsigned desk;
@@ -812,6 +821,7 @@ expect_bills(struct block book, uint64_t rate, const struct bill *expected, size
 	expect(count == 0, "C-14: a desk was not billed");
 	printf("  together %" PRIu64 " for a charge of %" PRIu64 "\n", sum, charge);
 	expect(sum == charge * rate / 10000, "C-14: the bills do not add up to the charge's cost");
+	free(schedule.bytes);
 	free(report.bytes);
 	free(bills.bytes);
 }
@@ -919,6 +929,120 @@ bills_in_other_buffers(void)
 	free(bills.bytes);
 }
 
+/* ---- Schedules of version 2 ---- */
+
+enum { ROW_H = 5 };
+enum { VAF_RATE = 0, BASE_RATE = 2, RATES = 3 };
+
+/* Where a rate of a schedule stands: the row counted from c, the rate from the VAF rate, both
+ * from 0. */
+static uint8_t *
+rate_at(struct block schedule, size_t row, size_t rate)
+{
+	return schedule.bytes + WEIGHTROSE_SCHEDULE_HEADER_SIZE +
+	       row * WEIGHTROSE_SCHEDULE_ROW_SIZE + 2 * rate;
+}
+
+/* The published schedule in ten-thousandths: version 2, and ten times each rate. */
+static struct block
+new_fine_schedule(void)
+{
+	struct block schedule = new_schedule();
+	size_t row, rate;
+
+	expect(weightrose_u16(schedule.bytes + 4) == WEIGHTROSE_SCHEDULE_PER_MILLE,
+	       "C-15: the published schedule's version");
+	put_u16(schedule.bytes + 4, WEIGHTROSE_SCHEDULE_TEN_THOUSANDTHS);
+	for (row = 0; row < WEIGHTROSE_SCHEDULE_ROWS; row++) {
+		for (rate = 0; rate < RATES; rate++) {
+			uint8_t *at = rate_at(schedule, row, rate);
+
+			put_u16(at, (uint16_t)(10 * weightrose_u16(at)));
+		}
+	}
+	return schedule;
+}
+
+/* Both schedules give the same report and the same bills. */
+static void
+expect_same_under(struct block one, struct block other, struct block book)
+{
+	struct block one_report = report_under(one, book);
+	struct block other_report = report_under(other, book);
+	struct block one_bills = new_bills(one, book, 437);
+	struct block other_bills = new_bills(other, book, 437);
+
+	expect_same(one_report, other_report, "C-15: another report");
+	expect_same(one_bills, other_bills, "C-15: other bills");
+	free(one_report.bytes);
+	free(other_report.bytes);
+	free(one_bills.bytes);
+	free(other_bills.bytes);
+}
+
+/* The bounds of either version, and the first version that is not known. */
+static void
+fine_schedule_refusals(struct block book)
+{
+	struct block schedule = new_fine_schedule();
+
+	put_u16(rate_at(schedule, ROW_H, BASE_RATE), WEIGHTROSE_MOST_RATE_TEN_THOUSANDTHS);
+	free(report_under(schedule, book).bytes);
+	put_u16(rate_at(schedule, ROW_H, BASE_RATE), WEIGHTROSE_MOST_RATE_TEN_THOUSANDTHS + 1);
+	expect_refusal(schedule, book, WEIGHTROSE_MOST_REPORT_SIZE, WEIGHTROSE_SCHEDULE_RATES, 0);
+	put_u16(schedule.bytes + 4, 3);
+	expect_refusal(schedule, book, WEIGHTROSE_MOST_REPORT_SIZE, WEIGHTROSE_SCHEDULE_VERSION, 0);
+	free(schedule.bytes);
+
+	schedule = new_schedule();
+	put_u16(rate_at(schedule, ROW_H, BASE_RATE), WEIGHTROSE_MOST_RATE_PER_MILLE);
+	free(report_under(schedule, book).bytes);
+	put_u16(rate_at(schedule, ROW_H, BASE_RATE), WEIGHTROSE_MOST_RATE_PER_MILLE + 1);
+	expect_refusal(schedule, book, WEIGHTROSE_MOST_REPORT_SIZE, WEIGHTROSE_SCHEDULE_RATES, 0);
+	free(schedule.bytes);
+}
+
+/*
+ * A ledger with an adjusted rate of 4.37 per cent for item (h) (paragraph 47), which per mille
+ * cannot say: it moves its schedule to version 2, sees that T2's report and bills are the same, and
+ * sets the rate. The limit of the second line is then 437,000,000 of a VAF of 10,000,000,000, in
+ * place of 500,000,000; 250,000,000 of it stand in the first.
+ */
+static void
+rates(void)
+{
+	enum { TIERS = 1 << WEIGHTROSE_TIER_I | 1 << WEIGHTROSE_TIER_H };
+	static const struct counterparty names[] = { { NO_PARENT, 0, UNGRADED, 0 } };
+	static const struct asset assets[] = {
+		{ ANY_OTHER, 1, 300000000, 0, 0, NO_ENTRY, 0 },
+		{ TRADED, 1, 300000000, 0, 0, NO_ENTRY, 0 },
+	};
+	static const struct line lines[] = {
+		{ 1, WEIGHTROSE_TIER_I, TIERS, { 300000000, 250000000, 250000000, 50000000 } },
+		{ 1, WEIGHTROSE_TIER_H, TIERS, { 300000000, 437000000, 187000000, 113000000 } },
+	};
+	struct ledger ledger = ledger_of(names, COUNT(names), assets, COUNT(assets));
+	struct block book = new_book(&ledger);
+	struct block per_mille = new_schedule();
+	struct block schedule = new_fine_schedule();
+	struct block report;
+
+	expect_same_under(per_mille, schedule, book);
+	put_u16(rate_at(schedule, ROW_H, VAF_RATE), 437);
+	report = report_under(schedule, book);
+	printf("C-15 at 437 ten-thousandths:\n");
+	print_report(report.bytes);
+	expect_line("C-15: the first line", weightrose_line(report.bytes, 0), &lines[0]);
+	expect_line("C-15: the second line", weightrose_line(report.bytes, 1), &lines[1]);
+	expect(weightrose_u64(report.bytes + WEIGHTROSE_HEADER_CHARGE) == 163000000,
+	       "C-15: the charge");
+	fine_schedule_refusals(book);
+	free(book.bytes);
+	free(per_mille.bytes);
+	free(schedule.bytes);
+	free(report.bytes);
+}
+
 static void
 published_into_too_little(void)
 {
@@ -948,6 +1072,7 @@ main(void)
 	bills_by_desk();
 	bills_rounded();
 	bills_in_other_buffers();
+	rates();
 	published_into_too_little();
 	printf("ledger: %d failures\n", failures);
 	return failures ? EXIT_FAILURE : EXIT_SUCCESS;

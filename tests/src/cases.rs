@@ -42,6 +42,10 @@ impl Report {
         self.u64(48)
     }
 
+    pub fn a3_limit(&self) -> u64 {
+        self.u64(56)
+    }
+
     pub fn charge(&self) -> u64 {
         self.u64(64)
     }

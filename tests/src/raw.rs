@@ -92,6 +92,13 @@ impl RawSchedule {
         }
     }
 
+    /// The same limits in version 2: "A version 1 rate counts ten times" (C-15).
+    pub fn tenfold(&self) -> RawSchedule {
+        let mut schedule = RawSchedule { version: 2, ..self.clone() };
+        schedule.rows.iter_mut().flat_map(|row| &mut row.rates).for_each(|rate| *rate *= 10);
+        schedule
+    }
+
     pub fn bytes(&self) -> Vec<u8> {
         let mut bytes = self.mark.to_vec();
         put_u16(&mut bytes, &[self.version, self.percents[0], self.percents[1]]);

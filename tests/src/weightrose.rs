@@ -2,6 +2,11 @@
 
 /// Bytes of a schedule.
 pub const SCHEDULE: usize = 122;
+/// The versions of a schedule, by the unit of its rates, and the most that a rate of each may be.
+pub const SCHEDULE_PER_MILLE: u16 = 1;
+pub const SCHEDULE_TEN_THOUSANDTHS: u16 = 2;
+pub const MOST_RATE_PER_MILLE: u16 = 1_500;
+pub const MOST_RATE_TEN_THOUSANDTHS: u16 = 15_000;
 /// Bytes of the largest book: 500 counterparties, 900 assets, 1,500 mitigants.
 pub const LARGEST_BOOK: usize = 40 + 4 * 500 + 48 * 900 + 12 * 1_500;
 /// Bytes of the report's header, and of each of its lines.

@@ -1,5 +1,5 @@
-//! Document 01's checked sums, T1 to T10, and its table of refusals (with document 02's example of
-//! 6), through the library, with the figures that the document gives.
+//! Document 01's checked sums, T1 to T10, and its table of refusals (with document 02's examples of
+//! 3 and 6), through the library, with the figures that the document gives.
 
 use weightrose_tests::cases::{refusal, refused_book, report};
 use weightrose_tests::inputs::largest_report_book;
@@ -168,7 +168,7 @@ fn refusals_1_to_4() {
     let short = &weightrose::published()[..121];
     assert_eq!(refusal(short, &book().bytes(), LARGEST_REPORT), Refusal::ScheduleLength);
     assert_eq!(refused_schedule(|schedule| schedule.mark = *b"ACB\0"), Refusal::ScheduleMark);
-    assert_eq!(refused_schedule(|schedule| schedule.version = 2), Refusal::ScheduleVersion);
+    assert_eq!(refused_schedule(|schedule| schedule.version = 3), Refusal::ScheduleVersion);
     assert_eq!(
         refused_schedule(|schedule| schedule.rows[7].rates[2] = 1_501),
         Refusal::ScheduleRates

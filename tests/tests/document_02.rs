@@ -1,18 +1,21 @@
 //! Document 02's requests through the library, with their figures and both sides of each of their
 //! boundaries: C-11, specialist reinsurers; C-12, lines straight into the lent report; C-13, desks
-//! and the converter; C-14, the bills.
+//! and the converter; C-14, the bills; C-15, rates in ten-thousandths.
 
 use weightrose_tests::cases::{
     bills, bills_under, not_billed, refusal, refused_book, report, report_under, Report,
 };
+use weightrose_tests::compare::{library, library_bills, outcome, room, Subject};
 use weightrose_tests::inputs::{
-    largest_report_book, largest_specialist_book, sample, sixteen_tiers,
+    largest_report_book, largest_specialist_book, sample, sixteen_tiers, Billing, Billings, Input,
+    Inputs,
 };
 use weightrose_tests::raw::*;
 use weightrose_tests::second::rebuilt;
 use weightrose_tests::weightrose::{
     bill, convert, packed_bills, packed_report, published, Answer, Refusal, BILLS, LARGEST_BOOK,
-    LARGEST_REPORT, LINE, MOST_COST_RATE,
+    LARGEST_REPORT, LINE, MOST_COST_RATE, MOST_RATE_PER_MILLE, MOST_RATE_TEN_THOUSANDTHS, SCHEDULE,
+    SCHEDULE_PER_MILLE, SCHEDULE_TEN_THOUSANDTHS,
 };
 
 const TOTAL: u64 = 10_000_000_000;
@@ -885,7 +888,7 @@ fn c14_refusals_in_their_order() {
     assert_eq!(not_billed(&schedule, short, rate, 0), Refusal::BookLength);
     for (place, byte, wanted) in [
         (6, 101, Refusal::ScheduleRates),
-        (4, 2, Refusal::ScheduleVersion),
+        (4, 3, Refusal::ScheduleVersion),
         (3, 1, Refusal::ScheduleMark),
     ] {
         schedule[place] = byte;
@@ -905,4 +908,365 @@ fn c14_any_bytes() {
             assert_eq!(not_billed(&published(), &book[..length], rate, BILLS), wanted);
         }
     }
+}
+
+/// The published limits in version 2.
+fn in_ten_thousandths() -> RawSchedule {
+    RawSchedule::published().tenfold()
+}
+
+/// All rows of these rates and this fixed amount; all of a limit is kept after a downgrade.
+fn plain(version: u16, rates: [u16; 3], fixed: u64) -> RawSchedule {
+    let rows = [RawRow { rates, fixed }; 8];
+    RawSchedule { version, percents: [100, 100], rows, ..RawSchedule::published() }
+}
+
+/// One group with 1 in each tier; VAF, VAF′ and base are the same.
+fn every_tier(vaf: u64) -> RawBook {
+    RawBook { base: vaf as i64, ..sixteen_tiers(1, 1, vaf) }
+}
+
+/// The limits of tiers 0 to 12.
+fn limits_by_tier(report: &Report) -> [u64; 13] {
+    let lines = report.lines();
+    let limit = |tier| lines.iter().find(|line| line.tier == tier).unwrap().amounts[1];
+    std::array::from_fn(|tier| limit(tier as u8))
+}
+
+/// "A client has an adjusted rate of 4.37 per cent": of a VAF of 10,000,000,000 that is
+/// 437,000,000, between 43 and 44 per mille. The published quarter of the base is 250,000,000.
+#[test]
+fn c15_the_clients_rate() {
+    let property = |schedule: &RawSchedule, value| {
+        let mut book = RawBook::empty(TOTAL, BASE, 0);
+        book.counterparty(RawCounterparty::default());
+        book.asset(held(0, 8, 1, value), &[]);
+        report_under(&schedule.bytes(), &book).printed()
+    };
+    let mut schedule = in_ten_thousandths();
+    schedule.rows[5].rates[0] = 437;
+    assert_eq!(property(&schedule, 437_000_000), "1 2 437000000 437000000 437000000 0\ncharge 0\n");
+    assert_eq!(property(&schedule, 437_000_001), "1 2 437000001 437000000 437000000 1\ncharge 1\n");
+    let mut schedule = RawSchedule::published();
+    schedule.rows[5].rates[0] = 43;
+    assert_eq!(property(&schedule, 1), "1 2 1 430000000 430000000 0\ncharge 0\n");
+    schedule.rows[5].rates[0] = 44;
+    assert_eq!(property(&schedule, 1), "1 2 1 440000000 440000000 0\ncharge 0\n");
+}
+
+/// The rows of tiers 0 to 12.
+const ROWS: [usize; 13] = [6, 6, 5, 5, 4, 4, 4, 2, 2, 2, 3, 0, 1];
+
+/// 437 at each place alone: 3.1027 cents of 71, 437,000,000,000 of M; for d's first rate W takes
+/// one cent off. C-11's three are per mille whatever stands in the schedule.
+#[test]
+fn c15_437_at_each_place() {
+    for (vaf, part, of_c11) in [
+        (71, 3, [35, 23, 12]),
+        (MOST, 437_000_000_000, [5_000_000_000_000, 3_300_000_000_000, 1_700_000_000_000]),
+    ] {
+        for (row, place) in (0..8).flat_map(|row| [(row, 0), (row, 1), (row, 2)]) {
+            let mut schedule = plain(2, [0; 3], 0);
+            schedule.rows[row].rates[place] = 437;
+            let report = report_under(&schedule.bytes(), &every_tier(vaf));
+            let wanted = |tier: usize| {
+                let w = u64::from(tier == 12 && place == 0);
+                if ROWS[tier] == row {
+                    part - w
+                } else {
+                    0
+                }
+            };
+            assert_eq!(limits_by_tier(&report), std::array::from_fn(wanted));
+            assert_eq!(report.a3_limit(), if row == 7 { part } else { 0 });
+            assert_eq!(limits(&report), of_c11);
+        }
+    }
+}
+
+/// T6 and T7 in ten-thousandths: 0.9984 and 1.0023, 0.9960 and 1 cent; 2.9982, 3.0006 and 3.0175,
+/// the last two of which are 2 where 8.8253 and 8.875 are rounded before the percent.
+#[test]
+fn c15_rounded_down_once() {
+    for (vaf, rate, limit) in [(39, 256, 0), (39, 257, 1), (40, 249, 0), (40, 250, 1)] {
+        let mut schedule = in_ten_thousandths();
+        schedule.rows[6].rates[0] = rate;
+        let report = report_under(&schedule.bytes(), &RawBook { base: 0, ..every_tier(vaf) });
+        assert_eq!(limits_by_tier(&report)[..2], [limit, limit]);
+    }
+    for (rate, limit) in [(1_242, 2), (1_243, 3), (1_250, 3)] {
+        let mut schedule = in_ten_thousandths();
+        schedule.rows[4].rates[0] = rate;
+        let report = report_under(&schedule.bytes(), &RawBook { base: 0, ..every_tier(71) });
+        assert_eq!(limits_by_tier(&report)[4], limit);
+    }
+}
+
+/// A schedule's bytes in version 2 with ten times each rate, where they are of version 1 and 16
+/// bits hold that.
+fn tenfold(schedule: &[u8]) -> Option<Vec<u8>> {
+    if schedule.len() != SCHEDULE || schedule[4..6] != [1, 0] {
+        return None;
+    }
+    let mut bytes = schedule.to_vec();
+    bytes[4] = 2;
+    for row in bytes[10..].chunks_mut(14) {
+        for rate in row[..6].chunks_mut(2) {
+            let number = u16::from_le_bytes([rate[0], rate[1]]).checked_mul(10)?;
+            rate.copy_from_slice(&number.to_le_bytes());
+        }
+    }
+    Some(bytes)
+}
+
+/// Whether the subject writes something under a schedule of version 1. Under ten times its rates in
+/// version 2 it must leave the same.
+fn written_tenfold(subject: Subject, input: &Input) -> bool {
+    let Some(schedule) = tenfold(&input.schedule) else {
+        return false;
+    };
+    let room = room(input);
+    let one = outcome(subject, input, room);
+    let other = outcome(subject, &Input { schedule, ..input.clone() }, room);
+    assert!(one == other, "answers {:#x} and {:#x}", one.answer, other.answer);
+    one.answer >> 32 == 0
+}
+
+/// "A version 1 rate counts ten times": ten times the rates in version 2 get the same answer and
+/// the same bytes, whatever the book, the buffer and the cost rate.
+#[test]
+fn c15_ten_times_the_rates() {
+    let inputs = Inputs::new(15);
+    let seeded = inputs.fixed()..inputs.fixed() + 8_000;
+    let reports = seeded.filter(|&number| written_tenfold(&library, &inputs.get(number)));
+    assert!(reports.count() > 1_000);
+    let billings = Billings::new(15);
+    let seeded = billings.fixed()..billings.fixed() + 8_000;
+    let bills = seeded.filter(|&number| {
+        let Billing { input, rate } = billings.get(number);
+        written_tenfold(&|schedule, book, lent| library_bills(schedule, book, rate, lent), &input)
+    });
+    assert!(bills.count() > 1_000);
+    for book in [sample(), largest_report_book(), largest_specialist_book(), every_tier(MOST)] {
+        let wanted = report(&book).bytes;
+        assert_eq!(report_under(&in_ten_thousandths().bytes(), &book).bytes, wanted);
+    }
+}
+
+/// The same numbers under the other version are another limit: 1,500 per mille of 1,000, and 1,500
+/// ten-thousandths. T2 under the published numbers in version 2 has a tenth of its limits.
+#[test]
+fn c15_the_version_decides() {
+    let mut book = RawBook::empty(1_000, 0, 0);
+    book.counterparty(RawCounterparty::default());
+    book.asset(held(0, 11, 1, 1_500), &[]);
+    let printed = |version| report_under(&plain(version, [1_500; 3], 0).bytes(), &book).printed();
+    assert_eq!(printed(1), "1 0 1500 1500 1500 0\ncharge 0\n");
+    assert_eq!(printed(2), "1 0 1500 150 150 1350\ncharge 1350\n");
+    let mut schedule = published();
+    schedule[4] = 2;
+    assert_eq!(
+        report_under(&schedule, &t2_at_desks()).printed(),
+        "1 0 300000000 25000000 25000000 275000000\n\
+         1 2 300000000 50000000 25000000 275000000\n\
+         charge 550000000\n"
+    );
+}
+
+/// The refusal of a schedule, by a report and by bills; none where both accept it.
+fn refused_schedule(schedule: &RawSchedule) -> Option<Refusal> {
+    let (schedule, book) = (schedule.bytes(), sample().bytes());
+    let answer = packed_report(&schedule, &book, &mut [0; LARGEST_REPORT]);
+    let refusal = match Answer::unpacked(answer).expect("an answer") {
+        Answer::Refused(refusal) => Some(refusal),
+        Answer::Written(_) => None,
+    };
+    let of_bills = not_billed(&schedule, &book, 1_001, 0);
+    assert_eq!(of_bills, refusal.unwrap_or(Refusal::CostRate));
+    refusal
+}
+
+/// "rates in ten-thousandths, at most 15,000": "refusal 4 reads 15,000 for version 2", and 1,500
+/// for version 1, each at every place.
+#[test]
+fn c15_the_most_of_a_rate() {
+    assert_eq!((SCHEDULE_PER_MILLE, SCHEDULE_TEN_THOUSANDTHS), (1, 2));
+    assert_eq!((MOST_RATE_PER_MILLE, MOST_RATE_TEN_THOUSANDTHS), (1_500, 15_000));
+    // Ten times 6,554 is 4 in 16 bits.
+    let beside: [(u16, &[u16], &[u16]); 2] = [
+        (1, &[1_499, 1_500], &[1_501, 6_554, 14_999, 15_000, 15_001, 65_535]),
+        (2, &[1_500, 1_501, 14_999, 15_000], &[15_001, 15_002, 16_384, 32_768, 65_535]),
+    ];
+    for (version, accepted, refused) in beside {
+        for (row, place) in (0..8).flat_map(|row| [(row, 0), (row, 1), (row, 2)]) {
+            let with = |rate| {
+                let mut schedule = plain(version, [1_500; 3], 0);
+                schedule.rows[row].rates[place] = rate;
+                refused_schedule(&schedule)
+            };
+            assert!(accepted.iter().all(|&rate| with(rate).is_none()));
+            assert!(refused.iter().all(|&rate| with(rate) == Some(Refusal::ScheduleRates)));
+        }
+    }
+}
+
+/// Percents are per cent and fixed amounts cents in both versions, and have the same bounds: 66 and
+/// 34 per cent of 12,345 are 8,147.7 and 4,197.3.
+#[test]
+fn c15_percents_and_fixed_amounts() {
+    let mut wanted = [12_345; 13];
+    (wanted[5], wanted[8], wanted[4], wanted[7]) = (8_147, 8_147, 4_197, 4_197);
+    for version in [1, 2] {
+        let schedule = RawSchedule { percents: [66, 34], ..plain(version, [0; 3], 12_345) };
+        let report = report_under(&schedule.bytes(), &every_tier(1_000));
+        assert_eq!((limits_by_tier(&report), report.a3_limit()), (wanted, 12_345));
+        for place in 0..2 {
+            for (percent, refusal) in [
+                (100, None),
+                (101, Some(Refusal::ScheduleRates)),
+                (660, Some(Refusal::ScheduleRates)),
+            ] {
+                let mut schedule = schedule.clone();
+                schedule.percents[place] = percent;
+                assert_eq!(refused_schedule(&schedule), refusal);
+            }
+        }
+        for row in 0..8 {
+            for (fixed, refusal) in [(MOST, None), (MOST + 1, Some(Refusal::ScheduleRates))] {
+                let mut schedule = schedule.clone();
+                schedule.rows[row].fixed = fixed;
+                assert_eq!(refused_schedule(&schedule), refusal);
+            }
+        }
+    }
+}
+
+/// "Refusal 3 passes 1 and 2 (its example is now 3)"; checked behind 2 and before 4.
+#[test]
+fn c15_versions() {
+    for version in (0..=300).chain([512, 513, 514, 0x0201, 0x0202, 65_535]) {
+        let passes = matches!(version, 1 | 2);
+        let schedule = RawSchedule { version, ..RawSchedule::published() };
+        let wanted = Some(Refusal::ScheduleVersion).filter(|_| !passes);
+        assert_eq!(refused_schedule(&schedule), wanted, "version {version}");
+        let mut rates = schedule;
+        rates.rows[6].rates[1] = 60_000;
+        let wanted = if passes { Refusal::ScheduleRates } else { Refusal::ScheduleVersion };
+        assert_eq!(refused_schedule(&rates), Some(wanted), "version {version}");
+        rates.mark[2] = b'B';
+        assert_eq!(refused_schedule(&rates), Some(Refusal::ScheduleMark), "version {version}");
+    }
+}
+
+/// C-11's tiers under schedules of version 2, at their least and at their most: 35.5, 23.43 and
+/// 12.07 cents.
+#[test]
+fn c15_specialist_funds() {
+    for rates in [0, 500, 5_000, 15_000] {
+        for percents in [[100, 100], [0, 0], [66, 34]] {
+            let schedule = RawSchedule { percents, ..plain(2, [rates; 3], 0) };
+            for (base, more) in [(0, 0), (MOST as i64, 0), (-(MOST as i64), 1_000)] {
+                let book = RawBook { base, ..three_tiers(71, more) };
+                assert_eq!(limits(&report_under(&schedule.bytes(), &book)), [35, 23, 12]);
+            }
+        }
+    }
+}
+
+/// Deposits of 1, and bills of another bank for so much: W. Row d's limit, where nothing else has
+/// one.
+fn limit_beside(w: u64, version: u16, rates: [u16; 3], fixed: u64) -> u64 {
+    let mut book = RawBook::empty(MOST, 0, 0);
+    book.counterparties = vec![bank(), bank()];
+    let cash = RawMitigant { form: 1, flags: 31, counterparty: 2, value: 1 };
+    book.asset(held(0, 3, 1, w % MOST + 1), &[cash]);
+    (0..w / MOST).for_each(|_| book.asset(held(0, 3, 1, MOST), &[]));
+    let mut schedule = plain(version, [0; 3], 0);
+    schedule.rows[1] = RawRow { rates, fixed };
+    let report = report_under(&schedule.bytes(), &book);
+    assert_eq!(report.all_net(), w + 1);
+    report.lines().iter().find(|line| line.tier == 12).unwrap().amounts[1]
+}
+
+/// W lessens the first rate's product, at most 15,000,000,000,000, in whole cents.
+#[test]
+fn c15_w() {
+    let product = 15_000_000_000_000;
+    for (version, rate) in [(1, 1_500), (2, 15_000)] {
+        assert_eq!(limit_beside(1, version, [rate, 0, 0], 0), product - 1);
+        assert_eq!(limit_beside(product - 1, version, [rate, 0, 0], 0), 1);
+        assert_eq!(limit_beside(product, version, [rate, 0, 0], 0), 0);
+        assert_eq!(limit_beside(product + 1, version, [rate, 0, 0], 0), 0);
+    }
+    assert_eq!(limit_beside(436_999_999_990, 2, [437, 0, 0], 0), 10);
+    assert_eq!(limit_beside(436_999_999_990, 2, [437, 1, 0], 0), 1_000_000_000);
+}
+
+/// 10,000 W passes 64 bits, by almost nothing: at 1,844,674,407,370,956 by 8,384. No product is
+/// left, only the second rate's, a tenth of M, and the fixed amount.
+#[test]
+fn c15_w_past_64_bits() {
+    for w in
+        [1_844_674_407_370_956, 3_689_348_814_741_911, 5_534_023_222_112_866, 7_378_697_629_483_821]
+    {
+        assert!(10_000u64.wrapping_mul(w) < 10_000);
+        for w in [w - 1, w, w + 1] {
+            for (version, first, second) in [(1, 1_500, 100), (2, 15_000, 1_000)] {
+                assert_eq!(limit_beside(w, version, [first, 0, 0], 7), 7);
+                assert_eq!(limit_beside(w, version, [first, second, 0], 7), MOST / 10);
+            }
+        }
+    }
+    // 900 assets of M, the most there are.
+    assert_eq!(limit_beside(900 * MOST - 1, 2, [15_000, 0, 0], 7), 7);
+}
+
+/// 15,000 of a VAF and a base of M: 1.5 M, which times 10,000 and 100 is just below 2^64.
+#[test]
+fn c15_the_largest_limits() {
+    for (percents, first, second) in [
+        ([100, 100], 15_000_000_000_000, 15_000_000_000_000),
+        ([99, 1], 14_850_000_000_000, 150_000_000_000),
+        ([66, 34], 9_900_000_000_000, 5_100_000_000_000),
+        ([0, 0], 0, 0),
+    ] {
+        let mut wanted = [15_000_000_000_000; 13];
+        (wanted[5], wanted[8], wanted[4], wanted[7]) = (first, first, second, second);
+        for (version, rate) in [(1, 1_500), (2, 15_000)] {
+            for fixed in [0, MOST] {
+                let schedule = RawSchedule { percents, ..plain(version, [rate; 3], fixed) };
+                let report = report_under(&schedule.bytes(), &every_tier(MOST));
+                assert_eq!(limits_by_tier(&report), wanted);
+                assert_eq!(report.a3_limit(), 15_000_000_000_000);
+            }
+        }
+    }
+}
+
+/// T2 with row i at 2.37 per cent, and T8 with row z at 12.37: the desks pay for 63,000,000 and
+/// 37,000,000 above 237,000,000 and 263,000,000, desk 0 for 1,500,000,000 less 1,237,000,000.
+#[test]
+fn c15_bills() {
+    let mut schedule = in_ten_thousandths();
+    schedule.rows[6].rates[0] = 237;
+    schedule.rows[7].rates[0] = 1_237;
+    let schedule = schedule.bytes();
+    assert_eq!(
+        report_under(&schedule, &t2_at_desks()).printed(),
+        "1 0 300000000 237000000 237000000 63000000\n\
+         1 2 300000000 500000000 263000000 37000000\n\
+         charge 100000000\n"
+    );
+    assert_eq!(bills_under(&schedule, &t2_at_desks(), 437), [(7, 2_753_100), (255, 1_616_900)]);
+    let t8 = reinsurers(&[(10, 600_000_000), (20, 600_000_000), (255, 600_000_000)]);
+    assert_eq!(report_under(&schedule, &t8).a3_limit(), 1_237_000_000);
+    let billed = [(0, 26_300), (10, 10_000), (20, 10_000), (255, 10_000)];
+    assert_eq!(bills_under(&schedule, &t8, 1), billed);
+}
+
+/// The published schedule stays what it was: version 1, per mille.
+#[test]
+fn c15_the_published_schedule() {
+    assert_eq!(published()[4..6], SCHEDULE_PER_MILLE.to_le_bytes());
+    assert_eq!(tenfold(&published()), Some(in_ten_thousandths().bytes()));
 }

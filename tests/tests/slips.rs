@@ -329,6 +329,8 @@ fn stand_ins_are_caught() {
     is_caught("a header naming lines that were not written", more_lines);
     for refusal in [
         Refusal::ScheduleLength,
+        Refusal::ScheduleVersion,
+        Refusal::ScheduleRates,
         Refusal::Asset(1),
         Refusal::BufferShort,
         Refusal::SpecialistEntry(1),

@@ -8,6 +8,7 @@ pub mod Tiers
 pub mod Values
 pub mod Mitigants
 pub mod Limits
+pub mod Rates
 pub mod Cascade
 pub mod Retrocession
 pub mod Faults

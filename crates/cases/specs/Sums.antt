@@ -23,10 +23,10 @@ t3 value = usual (name ∷ []) (plain 11 1 value ∷ []) []
 abbrev t4 : ℕ → ℕ → List ℕ
 t4 who bills = usual (bank ∷ bank ∷ []) (plain 4 1 4000000000 ∷ plain 3 who bills ∷ []) []
 
-abbrev t6 : ℕ → List ℕ
+abbrev pub t6 : ℕ → List ℕ
 t6 total = bookBytes total 0 0 (name ∷ []) (plain 11 1 1 ∷ []) []
 
-abbrev t7 : List ℕ
+abbrev pub t7 : List ℕ
 t7 = bookBytes 71 0 0 (name ∷ []) (entered 2 12 1 10 ∷ []) []
 
 abbrev t8 : List ℕ

@@ -36,10 +36,11 @@ table =
     bySchedule (take 121 publishedBytes) 1
     -- "its mark or zero": "ACB"
     ∷ bySchedule (set publishedBytes 2 66) 2
-    -- "its version": 2
-    ∷ bySchedule (set publishedBytes 4 2) 3
-    -- "a rate over 1,500 (..)": rate 1501
+    -- "its version": C-15, "its example is now 3"
+    ∷ bySchedule (set publishedBytes 4 3) 3
+    -- "a rate over 1,500 (..)": rate 1501; C-15: "reads 15,000 for version 2", rate 15001
     ∷ bySchedule (set (set publishedBytes 10 221) 11 5) 4
+    ∷ bySchedule (set (set (set publishedBytes 4 2) 10 153) 11 58) 4
     -- "book under 40 bytes": empty
     ∷ byBook [] 5 0
     -- "its mark or zeros" ("its example is now byte 12 = 2")

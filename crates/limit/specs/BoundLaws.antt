@@ -5,7 +5,7 @@ use native.Mathlib.Omega.{arith}
 use lib.IntN.{ℤ}
 use Rattle.wire.specs.Bytes.{M}
 use Rattle.limit.specs.declared.Row.{Row}
-use Rattle.limit.specs.Limit.{perMille, counted, greatest, numerator, limitOf}
+use Rattle.limit.specs.Limit.{tenThousandths, counted, greatest, numerator, limitOf}
 use Rattle.limit.specs.Bounds.{mostProduct, mostNumerator, mostLimit, RowFits}
 
 -- a bound on a product from bounds on its factors
@@ -13,14 +13,14 @@ pub times-le : {a b m n : ℕ} → a ≤ m → b ≤ n → a * b ≤ m * n
 times-le {a} {b} {m} {n} h k = le-trans (mul-le-mul-right b h) (mul-le-mul-left m k)
 
 module _ (row : Row) (percent vaf : ℕ) (base : ℤ) (w : ℕ) (r : RowFits row) (p : percent ≤ 100) (v : vaf ≤ M) (b : counted base ≤ M) where
-  greatest-le : greatest perMille row vaf base w ≤ mostProduct
+  greatest-le : greatest tenThousandths row vaf base w ≤ mostProduct
   unfolding greatest
   greatest-le = omega (arith, times-le (r .rate) v, times-le (r .second) v, times-le (r .base) b)
 
-  pub numerator-le : numerator perMille row percent vaf base w ≤ mostNumerator
+  pub numerator-le : numerator tenThousandths row percent vaf base w ≤ mostNumerator
   unfolding numerator
   numerator-le = times-le greatest-le p
 
-  pub limit-le : limitOf perMille row percent vaf base w ≤ mostLimit
+  pub limit-le : limitOf tenThousandths row percent vaf base w ≤ mostLimit
   unfolding limitOf
   limit-le = omega (arith, numerator-le)

@@ -1,5 +1,6 @@
--- The limit formula, for any scale of the rates, row and percent (A1, A2).
---   perMille    the scale of a version 1 schedule's rates
+-- The limit formula, for any scale of the rates, row and percent (A1, A2). Every limit is taken at tenThousandths.
+--   perMille tenThousandths   the scales of rates
+--   timesRow    a row with its rates so many times
 --   counted     what a capital base counts for
 --   greatest    the greatest of a row's four products, in parts of a cent, scale to the cent
 --   numerator   the exact limit, in parts of a cent, scale × 100 to the cent
@@ -8,9 +9,17 @@ use Prim.Native.Nat.{ℕ, _*_, _-_, _/_, max}
 use lib.IntN.{ℤ, pos, negsuc}
 use Rattle.limit.specs.declared.Row.{Row}
 
--- rates are "per mille"
+-- rates "per mille" of document 01 and C-11
 abbrev pub perMille : ℕ
 perMille = 1000
+
+-- C-15: "rates in ten-thousandths"
+abbrev pub tenThousandths : ℕ
+tenThousandths = 10000
+
+-- C-15: a rate "counts ten times", or any other times; the fixed amount is in cents and stays
+abbrev pub timesRow : ℕ → Row → Row
+timesRow n row = record { rate = n * row .rate; second = n * row .second; «base_rate» = n * row .«base_rate»; fixed = row .fixed }
 
 -- "a negative base gives nothing"
 abbrev pub counted : ℤ → ℕ

@@ -1,13 +1,13 @@
 -- A schedule that refusals 1 to 4 let pass fits: schedule-length, rates-fit.
 use mathlib.Core.Bool.{true}
 use mathlib.Core.List.{List, [], _∷_}
-use mathlib.Core.Path.{_≡_}
+use mathlib.Core.Path.{_≡_, _∙_}
 use Prim.Native.Nat.{ℕ}
 use lib.ListN.{length}
 use borrow.Author.Tests.{leb-true, eqb-true}
 use Rattle.words.specs.Words.{_≤?_, _=?_}
 use Rattle.words.specs.Choice.{each-true}
-use Rattle.wire.specs.Bytes.{M, u16At}
+use Rattle.wire.specs.Bytes.{M}
 use Rattle.limit.specs.declared.Row.{Row}
 use Rattle.limit.specs.Bounds.{mostRate, RowFits}
 use Rattle.refusal.specs.declared.Checked.the-variants.{Fine}
@@ -15,11 +15,12 @@ use Rattle.refusal.specs.declared.Refusal.the-variants.{ScheduleLength, Schedul
 use Rattle.refusal.specs.Chain.{refuse_unless_, _andThen_}
 use Rattle.refusal.specs.Laws.{then-first, then-rest, unless-fine}
 use Rattle.schedule.specs.declared.Schedule.{Schedule}
-use Rattle.schedule.specs.Schedule.{scheduleSize, scheduleOf}
-use Rattle.schedule.specs.Check.{scheduleMarked, rowFits, ratesFit, fieldsCheck, scheduleCheck}
+use Rattle.schedule.specs.Schedule.{scheduleSize, version, writtenOf, scheduleOf}
+use Rattle.schedule.specs.Check.{scheduleMarked, known, mostWritten, rowFits, ratesFit, fieldsCheck, scheduleCheck}
+use Rattle.schedule.specs.CountLaws.{counted-fits}
 use Rattle.schedule.specs.Fits.{RatesFit}
 
-row-fits : (r : Row) → rowFits r ≡ true → RowFits r
+row-fits : (r : Row) → rowFits mostRate r ≡ true → RowFits r
 unfolding rowFits
 row-fits r e =
     let h = each-true (r .rate ≤? mostRate) ((r .second ≤? mostRate) ∷ (r .«base_rate» ≤? mostRate) ∷ (r .fixed ≤? M) ∷ []) e in
@@ -30,11 +31,12 @@ row-fits r e =
       fixed = leb-true (r .fixed) M (h .1 .1 .1 .0);
     }
 
--- a schedule that passes the test fits
-pub tested-fits : (s : Schedule) → ratesFit s ≡ true → RatesFit s
+-- a schedule that passes the test in ten-thousandths fits
+pub tested-fits : (s : Schedule) → ratesFit mostRate s ≡ true → RatesFit s
 unfolding ratesFit
 tested-fits s e =
-    let rows = rowFits (s .c) ∷ rowFits (s .d) ∷ rowFits (s .e) ∷ rowFits (s .f) ∷ rowFits (s .g) ∷ rowFits (s .h) ∷ rowFits (s .i) ∷ rowFits (s .z) ∷ [] in
+    let t = rowFits mostRate in
+    let rows = t (s .c) ∷ t (s .d) ∷ t (s .e) ∷ t (s .f) ∷ t (s .g) ∷ t (s .h) ∷ t (s .i) ∷ t (s .z) ∷ [] in
     let w = each-true (s .first ≤? 100) ((s .second ≤? 100) ∷ rows) e in
     let r = w .1 .1 in
     record {
@@ -60,8 +62,9 @@ module _ (s : List ℕ) (e : scheduleCheck s ≡ Fine) where
   pub rates-fit : RatesFit (scheduleOf s)
   unfolding scheduleCheck fieldsCheck
   rates-fit =
-      let version = refuse ScheduleVersion unless u16At s 4 =? 1 in
-      let rates = refuse ScheduleRates unless ratesFit (scheduleOf s) in
+      let fit = ratesFit (mostWritten (version s)) (writtenOf s) in
+      let known′ = refuse ScheduleVersion unless known (version s) in
+      let rates = refuse ScheduleRates unless fit in
       let f = then-rest (refuse ScheduleLength unless length s =? scheduleSize) (fieldsCheck s) e in
-      let v = then-rest (refuse ScheduleMark unless scheduleMarked s) (version andThen rates) f in
-      tested-fits (scheduleOf s) (unless-fine ScheduleRates (ratesFit (scheduleOf s)) (then-rest version rates v))
+      let v = then-rest (refuse ScheduleMark unless scheduleMarked s) (known′ andThen rates) f in
+      tested-fits (scheduleOf s) (counted-fits s ∙ unless-fine ScheduleRates fit (then-rest known′ rates v))

@@ -1,10 +1,11 @@
--- The published schedule fits; its bytes are as many as a schedule has, refusals 1 to 4 let them pass, and they read back as it.
+-- The published schedule fits; its bytes are as many as a schedule has and state version 1, refusals 1 to 4 let them pass, they read back as it, and count as ten
+-- times its rates.
 use mathlib.Core.Path.{_≡_, refl}
 use lib.ListN.{length}
 use Rattle.words.specs.Words.{eachOf}
 use Rattle.wire.specs.Bytes.{u16At, u64At}
 use Rattle.refusal.specs.declared.Checked.the-variants.{Fine}
-use Rattle.schedule.specs.Schedule.{scheduleSize, rowAt, scheduleOf, published, rowBytes, headBytes, scheduleBytes}
+use Rattle.schedule.specs.Schedule.{scheduleSize, version, rowAt, timesAll, writtenOf, scheduleOf, published, rowBytes, headBytes, scheduleBytes}
 use Rattle.schedule.specs.Check.{rowFits, ratesFit, fieldsCheck, scheduleCheck}
 use Rattle.schedule.specs.Fits.{RatesFit}
 use Rattle.schedule.specs.FitsLaws.{tested-fits}
@@ -18,9 +19,17 @@ unfolding scheduleBytes headBytes rowBytes eachOf
 published-length = refl
 
 pub published-passes : scheduleCheck (scheduleBytes published) ≡ Fine
-unfolding scheduleBytes headBytes rowBytes eachOf scheduleCheck fieldsCheck ratesFit rowFits scheduleOf rowAt u16At u64At
+unfolding scheduleBytes headBytes rowBytes eachOf scheduleCheck fieldsCheck ratesFit rowFits writtenOf rowAt u16At u64At
 published-passes = refl
 
-pub published-back : scheduleOf (scheduleBytes published) ≡ published
-unfolding scheduleBytes headBytes rowBytes eachOf scheduleOf rowAt u16At u64At
+pub published-version : version (scheduleBytes published) ≡ 1
+unfolding scheduleBytes headBytes rowBytes eachOf u16At
+published-version = refl
+
+pub published-back : writtenOf (scheduleBytes published) ≡ published
+unfolding scheduleBytes headBytes rowBytes eachOf writtenOf rowAt u16At u64At
 published-back = refl
+
+pub published-counts : scheduleOf (scheduleBytes published) ≡ timesAll 10 published
+unfolding scheduleBytes headBytes rowBytes eachOf scheduleOf writtenOf rowAt u16At u64At
+published-counts = refl

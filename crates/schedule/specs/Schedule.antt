@@ -1,15 +1,19 @@
 -- "Schedule, 122 bytes".
 --   scheduleSize headSize rowSize rowCount   how many bytes a schedule, what stands before its rows, and a row have; how many rows there are
 --   rowStart                  where a row starts
---   rowAt scheduleOf          a row and a schedule from bytes
+--   version                   which version the bytes state
+--   rowAt writtenOf           a row and a schedule from bytes, as they are written
+--   counts timesAll           what a rate of a version counts in ten-thousandths; a schedule with its rates so many times
+--   scheduleOf                a schedule from bytes, its rates in ten-thousandths
 --   rowsOf                    a schedule's rows in their order
---   published                 the published schedule
---   mark rowBytes headBytes scheduleBytes    a schedule's bytes
+--   published                 the published schedule, as it is written
+--   mark rowBytes headBytes scheduleBytes    a version 1 schedule's bytes
 use mathlib.Core.List.{List, [], _∷_, _++_}
 use Prim.Native.Nat.{ℕ, _+_, _*_}
-use Rattle.words.specs.Words.{eachOf}
+use Rattle.words.specs.Words.{_=?_, if_then_else_, eachOf}
 use Rattle.wire.specs.Bytes.{u16At, u64At, bytes16, bytes64}
 use Rattle.limit.specs.declared.Row.{Row}
+use Rattle.limit.specs.Limit.{timesRow}
 use Rattle.schedule.specs.declared.Schedule.{Schedule}
 
 -- "Schedule, 122 bytes"
@@ -31,6 +35,10 @@ rowCount = 8
 abbrev pub rowStart : ℕ → ℕ
 rowStart n = headSize + rowSize * n
 
+-- "u16 version 1", and C-15's "Schedule version 2"
+abbrev pub version : List ℕ → ℕ
+version s = u16At s 4
+
 -- "14 bytes: u16 VAF rate, u16 second VAF rate, u16 base rate (..), u64 fixed amount"
 unfoldable pub rowAt : List ℕ → ℕ → Row
 rowAt s n =
@@ -42,9 +50,9 @@ rowAt s n =
       fixed = u64At s (at + 6);
     }
 
--- "a zero byte, u16 version 1, u16 percent kept (..), u16 after the second, then rows"
-unfoldable pub scheduleOf : List ℕ → Schedule
-scheduleOf s =
+-- "u16 version 1, u16 percent kept (..), u16 after the second, then rows"; C-15: "version 2 has the same layout"
+unfoldable pub writtenOf : List ℕ → Schedule
+writtenOf s =
     record {
       first = u16At s 6;
       second = u16At s 8;
@@ -58,6 +66,30 @@ scheduleOf s =
       z = rowAt s 7;
     }
 
+-- C-15: "rates in ten-thousandths (..). A version 1 rate counts ten times"
+abbrev pub counts : ℕ → ℕ
+counts v = if v =? 1 then 10 else 1
+
+-- the rates of every row; percents are per cent and fixed amounts cents in both versions
+abbrev pub timesAll : ℕ → Schedule → Schedule
+timesAll n s =
+    record {
+      first = s .first;
+      second = s .second;
+      c = timesRow n (s .c);
+      d = timesRow n (s .d);
+      e = timesRow n (s .e);
+      f = timesRow n (s .f);
+      g = timesRow n (s .g);
+      h = timesRow n (s .h);
+      i = timesRow n (s .i);
+      z = timesRow n (s .z);
+    }
+
+-- what limits are taken from
+unfoldable pub scheduleOf : List ℕ → Schedule
+scheduleOf s = timesAll (counts (version s)) (writtenOf s)
+
 -- "rows c, d, e, f, g, h, i, z"
 abbrev pub rowsOf : Schedule → List Row
 rowsOf s = s .c ∷ s .d ∷ s .e ∷ s .f ∷ s .g ∷ s .h ∷ s .i ∷ s .z ∷ []
@@ -66,7 +98,7 @@ rowsOf s = s .c ∷ s .d ∷ s .e ∷ s .f ∷ s .g ∷ s .h ∷ s .i ∷ s .z �
 abbrev row : ℕ → ℕ → ℕ → ℕ → Row
 row rate second base fixed = record { rate = rate; second = second; «base_rate» = base; fixed = fixed }
 
--- "The published schedule (..): percents 66, 34; rows c 250,0,0; d 500,250,0; e and f 250,0,1250, all four with fixed 2,000,000,000;
+-- of version 1, rates per mille: "The published schedule (..): percents 66, 34; rows c 250,0,0; d 500,250,0; e and f 250,0,1250, all four with fixed 2,000,000,000;
 -- g and z 125,0,625; h 50,0,250; i 25,0,125, fixed 0"
 abbrev pub published : Schedule
 published =

@@ -12,7 +12,7 @@ use Rattle.limit.specs.Bounds.{mostRate, mostLimit, RowFits}
 use Rattle.limit.specs.BoundLaws.{limit-le}
 use Rattle.cascade.specs.Cascade.{tiers}
 use Rattle.schedule.specs.declared.Schedule.{Schedule}
-use Rattle.schedule.specs.Tiers.{rateAlone, limits, a3LimitOf}
+use Rattle.schedule.specs.Tiers.{rateAlone, limits, limitsIn, a3LimitOf, a3LimitIn}
 use Rattle.schedule.specs.Fits.{RatesFit}
 
 infixr 10 _and_
@@ -23,12 +23,12 @@ pub alone-fits : {rate : ℕ} → rate ≤ mostRate → RowFits (rateAlone rate)
 alone-fits h = record { rate = h; second = omega arith; base = omega arith; fixed = omega arith }
 
 pub limits-length : (S : Schedule) (vaf vaf′ : ℕ) (base : ℤ) (w : ℕ) → length (limits S vaf vaf′ base w) ≡ tiers
-unfolding limits
+unfolding limitsIn
 limits-length S vaf vaf′ base w = refl
 
 module _ (S : Schedule) (vaf vaf′ : ℕ) (base : ℤ) (w : ℕ) (h : RatesFit S) (v : vaf ≤ M) (v′ : vaf′ ≤ M) (b : counted base ≤ M) where
   all-le : All (λ n. n ≤ mostLimit) (limits S vaf vaf′ base w)
-  unfolding limits
+  unfolding limitsIn
   all-le =
       limit-le _ _ _ _ _ (h .i) (omega arith) (omega arith) b
       and limit-le _ _ _ _ _ (h .i) (omega arith) (omega arith) b
@@ -52,5 +52,5 @@ module _ (S : Schedule) (vaf vaf′ : ℕ) (base : ℤ) (w : ℕ) (h : RatesFit 
   limits-le t = all-at (λ n. n ≤ mostLimit) 0 (omega arith) (limits S vaf vaf′ base w) all-le t
 
 pub a3-limit-le : (S : Schedule) (vaf′ : ℕ) (base : ℤ) → RatesFit S → vaf′ ≤ M → counted base ≤ M → a3LimitOf S vaf′ base ≤ mostLimit
-unfolding a3LimitOf
+unfolding a3LimitIn
 a3-limit-le S vaf′ base h v b = limit-le (S .z) 100 vaf′ base 0 (h .z) (omega arith) v b

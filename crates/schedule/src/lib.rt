@@ -3,18 +3,24 @@ use limit::Row;
 use refusal::Checked;
 use refusal::Refusal;
 ghost use mathlib.Core.Path.{_≡_};
-ghost use Prim.Native.Nat.{_+_, _≤_, _<_};
+ghost use Prim.Native.Nat.{_+_, _*_, _≤_, _<_};
 ghost use lib.ListN.{length};
 ghost use Rattle.words.specs.Words.{eachOf};
 ghost use Rattle.wire.specs.Bytes.{M, u16At, placed};
-ghost use Rattle.limit.specs.Limit.{counted};
-ghost use Rattle.limit.specs.Bounds.{mostLimit, RowFits};
-ghost use Rattle.schedule.specs.Schedule.{scheduleSize, headSize, rowSize, rowCount, rowAt, scheduleOf, rowsOf, published, mark, rowBytes, headBytes, scheduleBytes};
-ghost use Rattle.schedule.specs.Check.{scheduleMarked, rowFits, ratesFit, fieldsCheck, scheduleCheck};
+ghost use Rattle.limit.specs.Limit.{timesRow, counted};
+ghost use Rattle.limit.specs.Bounds.{mostRate, mostLimit, RowFits};
+ghost use Rattle.schedule.specs.Schedule.{scheduleSize, headSize, rowSize, rowCount, version, rowAt, counts, scheduleOf, rowsOf, published, mark, rowBytes, headBytes, scheduleBytes};
+ghost use Rattle.schedule.specs.Check.{scheduleMarked, known, rowFits, ratesFit, fieldsCheck, scheduleCheck};
 ghost use Rattle.schedule.specs.Fits.{RatesFit};
 ghost use Rattle.schedule.specs.Tiers.{limits, a3LimitOf};
 
-const VERSION: u16 = 1;
+// The versions: rates per mille, and rates in ten-thousandths.
+const PER_MILLE: u16 = 1;
+
+const TEN_THOUSANDTHS: u16 = 2;
+
+// How many ten-thousandths one per mille is.
+const TENFOLD: u64 = 10;
 
 // How many bytes a schedule has, how many stand before its rows, how many a row has, and how many rows there are.
 pub const SIZE: usize = 122;
@@ -39,7 +45,7 @@ pub struct Schedule {
     pub z: Row,
 }
 
-// The published schedule (A1 to A3): percents kept, and rows c, d, e, f, g, h, i, z.
+// The published schedule (A1 to A3), of version 1: percents kept, and rows c, d, e, f, g, h, i, z, their rates per mille.
 const FIRST: u64 = 66;
 
 const SECOND: u64 = 34;
@@ -103,66 +109,82 @@ const ROWS: [Row; ROW_COUNT] = [
     },
 ];
 
-// The rows of tiers 13, 14 and 15 (P46), of no schedule: rates alone.
+// The rows of tiers 13, 14 and 15 (P46), of no schedule: 500, 330 and 170 per mille alone.
 const RETROCESSION: [Row; 3] = [
     Row {
-        rate: 500,
+        rate: 500 * TENFOLD,
         second: 0,
         base_rate: 0,
         fixed: 0,
     },
     Row {
-        rate: 330,
+        rate: 330 * TENFOLD,
         second: 0,
         base_rate: 0,
         fixed: 0,
     },
     Row {
-        rate: 170,
+        rate: 170 * TENFOLD,
         second: 0,
         base_rate: 0,
         fixed: 0,
     },
 ];
 
-// A rate or percent: a u16.
-fn rate_at(s: &[u8], at: usize) -> u64
-    requires { ⌜ at + 2 ≤ length (now s) ⌝ }
-    ensures { λ r. ⌜ r ≡ u16At (now (s .entry)) at ⌝ }
+// Which version a schedule states.
+fn version(s: &[u8]) -> u16
+    requires { ⌜ scheduleSize ≤ length (now s) ⌝ }
+    ensures { λ r. ⌜ r ≡ version (now (s .entry)) ⌝ }
 {
-    wire::u16_at(s, at) as u64
+    wire::u16_at(s, 4)
 }
 
-// Row n of a schedule: 0 is c, 7 is z.
-fn row_at(s: &[u8], n: usize) -> Row
-    requires { ⌜ (n < rowCount) × (scheduleSize ≤ length (now s)) ⌝ }
-    ensures { λ r. ⌜ r ≡ rowAt (now (s .entry)) n ⌝ }
+// What a rate of a version counts in ten-thousandths.
+fn times(version: u16) -> u64
+    ensures { λ r. ⌜ (r ≡ counts version) × (r ≤ 10) ⌝ }
+{
+    if version == PER_MILLE { TENFOLD } else { 1 }
+}
+
+// A rate, so many times.
+fn rate_at(s: &[u8], at: usize, times: u64) -> u64
+    requires { ⌜ (at + 2 ≤ length (now s)) × (times ≤ 10) ⌝ }
+    ensures { λ r. ⌜ r ≡ times * u16At (now (s .entry)) at ⌝ }
+{
+    times * wire::u16_at(s, at) as u64
+}
+
+// Row n of a schedule, its rates so many times: 0 is c, 7 is z.
+fn row_at(s: &[u8], n: usize, times: u64) -> Row
+    requires { ⌜ (n < rowCount) × (scheduleSize ≤ length (now s)) × (times ≤ 10) ⌝ }
+    ensures { λ r. ⌜ r ≡ timesRow times (rowAt (now (s .entry)) n) ⌝ }
 {
     let at = HEAD_SIZE + ROW_SIZE * n;
     Row {
-        rate: rate_at(s, at),
-        second: rate_at(s, at + 2),
-        base_rate: rate_at(s, at + 4),
+        rate: rate_at(s, at, times),
+        second: rate_at(s, at + 2, times),
+        base_rate: rate_at(s, at + 4, times),
         fixed: wire::u64_at(s, at + 6),
     }
 }
 
-// The schedule that the bytes hold.
+// The schedule that the bytes hold, with rates in ten-thousandths.
 pub fn schedule_at(s: &[u8]) -> Schedule
     requires { ⌜ scheduleSize ≤ length (now s) ⌝ }
     ensures { λ r. ⌜ r ≡ scheduleOf (now (s .entry)) ⌝ }
 {
+    let n = times(version(s));
     Schedule {
-        first: rate_at(s, 6),
-        second: rate_at(s, 8),
-        c: row_at(s, 0),
-        d: row_at(s, 1),
-        e: row_at(s, 2),
-        f: row_at(s, 3),
-        g: row_at(s, 4),
-        h: row_at(s, 5),
-        i: row_at(s, 6),
-        z: row_at(s, 7),
+        first: wire::u16_at(s, 6) as u64,
+        second: wire::u16_at(s, 8) as u64,
+        c: row_at(s, 0, n),
+        d: row_at(s, 1, n),
+        e: row_at(s, 2, n),
+        f: row_at(s, 3, n),
+        g: row_at(s, 4, n),
+        h: row_at(s, 5, n),
+        i: row_at(s, 6, n),
+        z: row_at(s, 7, n),
     }
 }
 
@@ -175,7 +197,7 @@ fn marked(s: &[u8]) -> bool
 }
 
 fn row_fits(row: Row) -> bool
-    ensures { λ r. ⌜ r ≡ rowFits row ⌝ }
+    ensures { λ r. ⌜ r ≡ rowFits mostRate row ⌝ }
 {
     (row.rate <= limit::MOST_RATE)
         & (row.second <= limit::MOST_RATE)
@@ -184,7 +206,7 @@ fn row_fits(row: Row) -> bool
 }
 
 fn rates_fit(s: Schedule) -> bool
-    ensures { λ r. ⌜ r ≡ ratesFit s ⌝ }
+    ensures { λ r. ⌜ r ≡ ratesFit mostRate s ⌝ }
 {
     (s.first <= 100)
         & (s.second <= 100)
@@ -198,13 +220,20 @@ fn rates_fit(s: Schedule) -> bool
         & row_fits(s.z)
 }
 
+// Whether a version is one of the two.
+fn known(version: u16) -> bool
+    ensures { λ r. ⌜ r ≡ known version ⌝ }
+{
+    (version == PER_MILLE) | (version == TEN_THOUSANDTHS)
+}
+
 // Refusals 2 to 4, of a schedule that has its length.
 fn check_fields(s: &[u8]) -> Checked
     requires { ⌜ scheduleSize ≤ length (now s) ⌝ }
     ensures { λ r. ⌜ r ≡ fieldsCheck (now (s .entry)) ⌝ }
 {
     let mark = refusal::unless(Refusal::ScheduleMark, marked(s));
-    let version = refusal::unless(Refusal::ScheduleVersion, wire::u16_at(s, 4) == VERSION);
+    let version = refusal::unless(Refusal::ScheduleVersion, known(version(s)));
     let rates = refusal::unless(Refusal::ScheduleRates, rates_fit(schedule_at(s)));
     refusal::and_then(mark, refusal::and_then(version, rates))
 }
@@ -271,7 +300,7 @@ fn put_head(d: &mut [u8])
     ensures { λ _. ⌜ now (d .exit) ≡ placed (now (d .entry)) 0 (headBytes published) ⌝ }
 {
     put_mark(d);
-    wire::put_u16(d, 4, VERSION);
+    wire::put_u16(d, 4, PER_MILLE);
     wire::put_u16(d, 6, FIRST as u16);
     wire::put_u16(d, 8, SECOND as u16);
 }

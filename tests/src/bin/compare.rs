@@ -2,17 +2,20 @@
 //! converters, whose books must get the same report before and behind; and the bills, which must
 //! add up to the cost of the report's charge.
 //!
-//!     compare [--inputs N] [--seed S]            N inputs (60,000 unless said) under the seed S, a
-//!                                                fifth as many of the converter, and of the bills
+//!     compare [--inputs N] [--seed S]            N inputs (80,000 unless said) under the seed S, a
+//!                                                fifth as many of the converter, and a quarter of
+//!                                                the bills
 //!     compare --only I [--seed S] [--dump FILE]  input I alone; FILE gets its schedule and book
 //!     compare --conversion I [--seed S] ..       the same of the converter's inputs
 //!     compare --billing I [--seed S] ..          the same of the bills' inputs
 //!     compare --against yardstick ..             with the static library that the build was given,
 //!                                                reports alone
 //!     compare --without-version V ..             leaving out books whose byte 4 is V
+//!     compare --without-schedule-version V ..    leaving out schedules whose byte 4 is V
 //!
-//! Ends with status 1 on the first difference, or where a refusal or a tier was not met at all, or
-//! no more than half of the bills were of excesses at several desks.
+//! Ends with status 1 on the first difference, or where a refusal or a tier was not met at all,
+//! also under schedules of version 2 alone unless these are left out, or no more than half of the
+//! bills were of excesses at several desks.
 
 use std::process::ExitCode;
 use std::time::Instant;
@@ -29,6 +32,8 @@ const REFUSALS: usize = 19;
 const OF_REPORT: &[usize] = &[1, 2, 3, 4, 5, 6, 7, 8, 9, 10, 11, 12, 13, 14, 15, 16, 17];
 const OF_CONVERSION: &[usize] = &[5, 6, 7, 8, 9, 10, 11, 12, 13, 14, 15, 16, 17, 18];
 const OF_BILLS: &[usize] = &[1, 2, 3, 4, 5, 6, 7, 8, 9, 10, 11, 12, 13, 14, 15, 16, 17, 19];
+/// The refusal of a rate: the first that a schedule of a known version can have.
+const RATES: usize = 4;
 const TIERS: usize = 16;
 const TIER_NAMES: [&str; TIERS] = [
     "i",
@@ -56,6 +61,7 @@ struct Options {
     conversion: Option<usize>,
     billing: Option<usize>,
     without_version: Option<u8>,
+    without_schedule_version: Option<u8>,
     dump: Option<String>,
     against: Other,
 }
@@ -84,12 +90,13 @@ fn other(name: &str) -> Result<Other, String> {
 
 fn options() -> Result<Options, String> {
     let mut options = Options {
-        inputs: 60_000,
+        inputs: 80_000,
         seed: 20_230_701,
         only: None,
         conversion: None,
         billing: None,
         without_version: None,
+        without_schedule_version: None,
         dump: None,
         against: SECOND,
     };
@@ -104,6 +111,9 @@ fn options() -> Result<Options, String> {
             "--conversion" => options.conversion = Some(number()? as usize),
             "--billing" => options.billing = Some(number()? as usize),
             "--without-version" => options.without_version = Some(number()? as u8),
+            "--without-schedule-version" => {
+                options.without_schedule_version = Some(number()? as u8);
+            }
             "--dump" => options.dump = Some(value),
             "--against" => options.against = other(&value)?,
             _ => return Err(format!("unknown option {word}")),
@@ -112,58 +122,104 @@ fn options() -> Result<Options, String> {
     Ok(options)
 }
 
+impl Options {
+    fn leaves_out(&self, input: &Input) -> bool {
+        let has = |bytes: &[u8], version: Option<u8>| {
+            version.is_some_and(|version| bytes.get(4) == Some(&version))
+        };
+        has(&input.book, self.without_version)
+            || has(&input.schedule, self.without_schedule_version)
+    }
+}
+
+/// How often something was met, and how often of these under a schedule of version 2.
+#[derive(Clone, Copy, Default)]
+struct Count {
+    all: u64,
+    version_2: u64,
+}
+
+impl Count {
+    fn add(&mut self, input: &Input) {
+        self.all += 1;
+        self.version_2 += u64::from(input.schedule.get(4..6) == Some(&[2, 0]));
+    }
+}
+
 /// What the inputs met.
 #[derive(Default)]
 struct Met {
     specialist_funds: u64,
-    version_2: u64,
-    written: u64,
-    refusals: [u64; REFUSALS],
-    lines: [u64; TIERS],
+    books_of_version_2: u64,
+    inputs: Count,
+    written: Count,
+    refusals: [Count; REFUSALS],
+    lines: [Count; TIERS],
 }
 
 impl Met {
     fn count(&mut self, input: &Input, outcome: &Outcome) {
         self.specialist_funds += u64::from(input.book.get(12) == Some(&1));
-        self.version_2 += u64::from(input.book.get(4) == Some(&2));
+        self.books_of_version_2 += u64::from(input.book.get(4) == Some(&2));
+        self.inputs.add(input);
         match Answer::unpacked(outcome.answer) {
-            Some(Answer::Refused(refusal)) => self.refusals[refusal.number() as usize - 1] += 1,
-            Some(Answer::Written(_)) => self.written += 1,
+            Some(Answer::Refused(refusal)) => {
+                self.refusals[refusal.number() as usize - 1].add(input);
+            }
+            Some(Answer::Written(_)) => self.written.add(input),
             None => unreachable!("both answered {:#x}", outcome.answer),
         }
     }
 
     /// The lines of a report.
-    fn count_lines(&mut self, outcome: &Outcome) {
+    fn count_lines(&mut self, input: &Input, outcome: &Outcome) {
         if let Some(Answer::Written(length)) = Answer::unpacked(outcome.answer) {
             let lines = &outcome.area[GUARD + HEADER..GUARD + length];
-            lines.chunks(LINE).for_each(|line| self.lines[usize::from(line[2])] += 1);
+            lines.chunks(LINE).for_each(|line| self.lines[usize::from(line[2])].add(input));
         }
     }
 
     fn print(&self, written: &str, refusals: &[usize]) {
         println!(
             "books of specialist funds {}, of version 2 {}",
-            self.specialist_funds, self.version_2
+            self.specialist_funds, self.books_of_version_2
         );
-        println!("{written} {}", self.written);
+        println!("{:10} {:>9} {:>9} under schedules of version 2", "", "in all", "of these");
+        let line = |name: &str, count: Count| {
+            println!("{name:10} {:9} {:9}", count.all, count.version_2);
+        };
+        line("inputs", self.inputs);
+        line(written, self.written);
         for number in refusals {
-            println!("refusal {number:2} {:9}", self.refusals[number - 1]);
+            line(&format!("refusal {number:2}"), self.refusals[number - 1]);
         }
     }
 
     fn print_lines(&self) {
         for ((number, name), count) in (0..).zip(TIER_NAMES).zip(self.lines) {
-            println!("tier {number:2} {count:12} lines  {name}");
+            println!("tier {number:2}    {:9} {:9} lines  {name}", count.all, count.version_2);
         }
     }
 
     fn refusals_met(&self, refusals: &[usize]) -> bool {
-        self.written > 0 && refusals.iter().all(|number| self.refusals[number - 1] > 0)
+        self.written.all > 0 && refusals.iter().all(|number| self.refusals[number - 1].all > 0)
     }
 
     fn lines_met(&self) -> bool {
-        self.lines.iter().all(|&count| count > 0)
+        self.lines.iter().all(|count| count.all > 0)
+    }
+
+    /// C-15: the refusals under a schedule of version 2, and 4 under one of version 1.
+    fn refusals_met_under_both(&self, refusals: &[usize]) -> bool {
+        let rates = self.refusals[RATES - 1];
+        let mut of_known = refusals.iter().filter(|&&number| number >= RATES);
+        self.written.version_2 > 0
+            && rates.version_2 < rates.all
+            && of_known.all(|number| self.refusals[number - 1].version_2 > 0)
+    }
+
+    fn lines_met_under_version_2(&self) -> bool {
+        self.lines.iter().all(|count| count.version_2 > 0)
     }
 }
 
@@ -241,23 +297,26 @@ fn reports(options: &Options) -> Result<(), String> {
     let inputs = Inputs::new(options.seed);
     let other = options.against.subject;
     let mut met = Met::default();
-    let mut compared = 0;
     for number in numbers(options.only, options.inputs) {
         let input = inputs.get(number);
-        if options.without_version.is_some_and(|version| input.book.get(4) == Some(&version)) {
+        if options.leaves_out(&input) {
             continue;
         }
         let both = || compare(&library, &other, &input);
         let outcome = compare_one(options, "--only", number, &input, both)?;
         met.count(&input, &outcome);
-        met.count_lines(&outcome);
-        compared += 1;
+        met.count_lines(&input, &outcome);
     }
     met.print("reports", OF_REPORT);
     met.print_lines();
     if options.only.is_none() && !(met.refusals_met(OF_REPORT) && met.lines_met()) {
         return Err("a refusal or a tier was not met".to_string());
     }
+    let without = options.only.is_some() || options.without_schedule_version == Some(2);
+    if !without && !(met.refusals_met_under_both(OF_REPORT) && met.lines_met_under_version_2()) {
+        return Err("a refusal or a tier was not met under a version of schedules".to_string());
+    }
+    let compared = met.inputs.all;
     let (fixed, seconds) = (inputs.fixed(), start.elapsed().as_secs_f64());
     println!(
         "compared on {compared} inputs, the first {fixed} fixed: no difference, {seconds:.1} s"
@@ -295,7 +354,7 @@ fn bills(options: &Options) -> Result<(), String> {
     let start = Instant::now();
     let inputs = Billings::new(options.seed);
     let (mut met, mut met_bills) = (Met::default(), MetBills::default());
-    let numbers = numbers(options.billing, options.inputs / 5);
+    let numbers = numbers(options.billing, options.inputs / 4);
     let count = numbers.len();
     for number in numbers {
         let billing = inputs.get(number);
@@ -312,7 +371,9 @@ fn bills(options: &Options) -> Result<(), String> {
     }
     met.print("bills", OF_BILLS);
     met_bills.print();
-    let all_met = met.refusals_met(OF_BILLS) && met_bills.met(met.written);
+    let all_met = met.refusals_met(OF_BILLS)
+        && met.refusals_met_under_both(OF_BILLS)
+        && met_bills.met(met.written.all);
     if options.billing.is_none() && !all_met {
         return Err("a refusal or an excess of the bills was not met".to_string());
     }

@@ -3,8 +3,8 @@
 
 use super::edges::sample;
 use super::extremes::{self, sixteen_tiers};
-use super::{books, combinations, made, specialist, versions};
-use super::{Input, Inputs, Parents, Room, Shape};
+use super::{books, combinations, made, rates, specialist, versions};
+use super::{Family, Input, Inputs, Parents, Room, Shape};
 use crate::random::Random;
 use crate::raw::*;
 use crate::weightrose::BILLS;
@@ -30,7 +30,7 @@ pub struct Billings {
 impl Billings {
     pub fn new(seed: u64) -> Billings {
         let parts = [
-            rates(),
+            cost_rates(),
             rooms(),
             cuts(),
             parts(),
@@ -43,6 +43,10 @@ impl Billings {
             refusals_1_to_12(),
             refusals_12_to_19(),
             every_combination(),
+            schedule_versions(),
+            single_rates(),
+            a3_rates(),
+            reports_under_rates(),
             sizes(),
             largest(),
         ];
@@ -126,11 +130,12 @@ fn of_reinsurers(nets: [u64; 3]) -> RawBook {
     book
 }
 
-fn rates() -> Vec<Billing> {
+fn cost_rates() -> Vec<Billing> {
     let excesses = of_one_name(&[3, 0, 255], &[12_345, 6_789, 1_234_567]);
     let none = of_one_name(&[3, 0, 255], &[1, 2, 3]);
     let books = [excesses, none, of_reinsurers([5_000, 7_000, 9_000]), sample()];
-    let at = |rate| books.clone().map(|book| billing("rates", &limits(7_000, 100), &book, rate));
+    let at =
+        |rate| books.clone().map(|book| billing("cost rates", &limits(7_000, 100), &book, rate));
     RATES.into_iter().chain(long_rates()).flat_map(at).collect()
 }
 
@@ -335,14 +340,15 @@ fn whole() -> Billing {
     billing("refusals", &limits(100, 0), &book, 1_000)
 }
 
-/// Each refusal of 1 to 12 beside good and bad rates and buffers.
+/// Each refusal of 1 to 12 beside good and bad rates and buffers, under both versions of a
+/// schedule.
 fn refusals_1_to_12() -> Vec<Billing> {
     type Fault = fn(&mut Input);
     let faults: [Fault; 13] = [
         |_| (),
         |input| input.schedule.truncate(121),
         |input| input.schedule[2] = b'B',
-        |input| input.schedule[4] = 2,
+        |input| input.schedule[4] = 3,
         |input| input.schedule[6] = 101,
         |input| input.book.truncate(39),
         |input| input.book[15] = 1,
@@ -354,10 +360,11 @@ fn refusals_1_to_12() -> Vec<Billing> {
         |input| input.book[40 + 4 * 4 + 48 * 4] = 6,
     ];
     let mut inputs = Vec::new();
-    for fault in faults {
+    for (fault, version) in faults.into_iter().flat_map(|fault| [(fault, 1), (fault, 2)]) {
         for rate in [0, 1_000, 1_001, u64::MAX] {
             for room in [BILLS, BILLS - 1, 0] {
                 let mut billing = in_room(&Billing { rate, ..whole() }, room);
+                billing.input.schedule[4] = version;
                 fault(&mut billing.input);
                 inputs.push(billing);
             }
@@ -397,6 +404,71 @@ fn every_combination() -> Vec<Billing> {
     for mut input in combinations::all() {
         bytes_at_desks(random, &mut input.book);
         input.schedule = limits(60, 1_000).bytes();
+        inputs.push(in_room(&Billing { input, rate: 1_000 }, BILLS));
+    }
+    inputs
+}
+
+/// C-15: versions of a schedule that pass and such that do not, with rates that pass in both and
+/// with rates that pass in the second alone, beside good and bad cost rates and buffers.
+fn schedule_versions() -> Vec<Billing> {
+    let mut inputs = Vec::new();
+    for version in [0, 1, 2, 3, 256, 257, 258, 513, 65_535] {
+        for rates in [RawSchedule::published(), RawSchedule::published().tenfold()] {
+            let schedule = RawSchedule { version, ..rates };
+            let book = sixteen_tiers(1, 1_000, 2_000);
+            for (rate, room) in [(437, BILLS), (437, BILLS - 1), (1_001, BILLS), (1_001, 0)] {
+                inputs.push(in_room(&billing("schedule versions", &schedule, &book, rate), room));
+            }
+        }
+    }
+    inputs
+}
+
+/// C-15: one rate of one row, and no other limit, with every tier at desks.
+fn single_rates() -> Vec<Billing> {
+    let mut inputs = Vec::new();
+    for (row, place) in (0..8).flat_map(|row| (0..3).map(move |place| (row, place))) {
+        for number in [43, 437, 1_500, 4_370, 15_000] {
+            for version in [1, 2] {
+                let mut schedule = RawSchedule { version, ..limits(0, 0) };
+                schedule.rows[row].rates[place] = number;
+                let mut book =
+                    RawBook { version: 2, base: 10_000, ..sixteen_tiers(2, 999, 10_000) };
+                for (desk, asset) in (0..).zip(&mut book.assets) {
+                    asset.desk = desk;
+                }
+                inputs.push(billing("single rates", &schedule, &book, 1_000));
+            }
+        }
+    }
+    inputs
+}
+
+/// C-15: reinsurers at and beside an A3 limit of either version, within that of their tier.
+fn a3_rates() -> Vec<Billing> {
+    let mut inputs = Vec::new();
+    for (version, number) in [(1, 43), (1, 44), (2, 437), (2, 438), (2, 4_370), (1, 437)] {
+        for place in 0..3 {
+            for total in [343_226, 343_227, 343_249, 343_250, 400_000, 5_000_000] {
+                let mut schedule = RawSchedule { version, ..limits(5_000, 0) };
+                schedule.rows[7].rates[place] = number;
+                let mut book = of_reinsurers([5_000, 4_999, 5_001]);
+                // VAF′ is the total, and the base too.
+                (book.total, book.base, book.excluded) = (total, total as i64, 15_000);
+                inputs.push(billing("A3 rates", &schedule, &book, 1_000));
+            }
+        }
+    }
+    inputs
+}
+
+/// C-15: every fifth of the report's inputs, at desks.
+fn reports_under_rates() -> Vec<Billing> {
+    let random = &mut Random::new(15, 0);
+    let mut inputs = Vec::new();
+    for mut input in rates::all().into_iter().step_by(5) {
+        bytes_at_desks(random, &mut input.book);
         inputs.push(in_room(&Billing { input, rate: 1_000 }, BILLS));
     }
     inputs
@@ -468,7 +540,7 @@ fn seeded(random: &mut Random, reports: &[Input]) -> Billing {
             input
         }
         12..=31 => {
-            let family = if random.chance(50) { specialist::random } else { books::random };
+            let family = random.pick::<Family>(&[books::random, specialist::random, rates::random]);
             let (schedule, mut book) = family(random);
             if random.chance(70) {
                 versions::at_desks(random, &mut book);
@@ -564,7 +636,7 @@ fn repeat(random: &mut Random, book: &mut RawBook) {
     }
 }
 
-/// Rates and fixed amounts that exposures of the scale pass.
+/// Rates and fixed amounts that exposures of the scale pass, in either version.
 fn low_limits(random: &mut Random, scale: u64) -> RawSchedule {
     let mut schedule = RawSchedule::published();
     let row = |random: &mut Random| RawRow {
@@ -577,6 +649,9 @@ fn low_limits(random: &mut Random, scale: u64) -> RawSchedule {
     }
     if random.chance(60) {
         schedule.percents = std::array::from_fn(|_| random.pick(&[0, 34, 50, 66, 100]));
+    }
+    if random.chance(50) {
+        schedule = rates::beside_ten_times(random, &schedule);
     }
     schedule
 }

@@ -1,5 +1,6 @@
 //! Seeded schedules and books that are accepted, but for a few whose sums are not.
 
+use super::rates;
 use crate::random::Random;
 use crate::raw::*;
 
@@ -59,7 +60,8 @@ fn random_scale(random: &mut Random, shape: &Shape) -> u64 {
     }
 }
 
-fn random_schedule(random: &mut Random, scale: u64) -> RawSchedule {
+/// A schedule, every fourth of version 2.
+pub fn random_schedule(random: &mut Random, scale: u64) -> RawSchedule {
     let mut schedule = RawSchedule::published();
     match random.below(100) {
         0..=24 => {}
@@ -74,6 +76,9 @@ fn random_schedule(random: &mut Random, scale: u64) -> RawSchedule {
     if random.chance(60) {
         let few = [0, 1, 33, 34, 50, 66, 99, 100, random.below(101) as u16];
         schedule.percents = std::array::from_fn(|_| random.pick(&few));
+    }
+    if random.chance(25) {
+        schedule = rates::restated(random, &schedule);
     }
     schedule
 }

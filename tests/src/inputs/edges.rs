@@ -78,7 +78,7 @@ fn book_with(name: &'static str, change: impl FnOnce(&mut RawBook)) -> Input {
     Input::new(name, &RawSchedule::published(), &book)
 }
 
-const VERSIONS: [u16; 6] = [0, 1, 2, 256, 257, 65_535];
+const VERSIONS: [u16; 9] = [0, 1, 2, 3, 256, 257, 258, 513, 65_535];
 
 /// Amounts on both sides of M, and at the ends of 64 bits.
 const AMOUNTS: [u64; 7] = [0, MOST - 1, MOST, MOST + 1, 1 << 63, (1 << 63) + MOST, u64::MAX];

@@ -22,13 +22,15 @@ fn bank() -> RawCounterparty {
     RawCounterparty { kind: 1, grade: 1, ..Default::default() }
 }
 
-/// All rates, percents and fixed amounts at 0, or at their most.
-fn schedules() -> [RawSchedule; 3] {
+/// All rates, percents and fixed amounts at 0, or at their most in either version.
+fn schedules() -> [RawSchedule; 4] {
     let rows = |rate, fixed| [RawRow { rates: [rate; 3], fixed }; 8];
     let published = RawSchedule::published();
+    let most = RawSchedule { percents: [100, 100], rows: rows(1_500, MOST), ..published.clone() };
     [
         RawSchedule { percents: [0, 0], rows: rows(0, 0), ..published.clone() },
-        RawSchedule { percents: [100, 100], rows: rows(1_500, MOST), ..published.clone() },
+        RawSchedule { version: 2, rows: rows(15_000, MOST), ..most.clone() },
+        most,
         published,
     ]
 }

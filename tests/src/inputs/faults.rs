@@ -27,10 +27,20 @@ fn spoil_schedule(random: &mut Random, schedule: &mut RawSchedule) {
     let row = random.index(8);
     match random.below(5) {
         0 => schedule.mark[random.index(4)] ^= 1 << random.below(8),
-        1 => schedule.version = random.below(3) as u16,
+        1 => schedule.version = random.pick(&[0, 1, 2, 3, 0x0100, 0x0101, 0x0102, 0x0201, 65_535]),
         2 => schedule.percents[random.index(2)] = random.between(99, 102) as u16,
-        3 => schedule.rows[row].rates[random.index(3)] = random.between(1_499, 1_502) as u16,
+        3 => schedule.rows[row].rates[random.index(3)] = bad_rate(random),
         _ => schedule.rows[row].fixed = bad_amount(random),
+    }
+}
+
+/// A rate beside the most of either version, any, or one whose tenfold is small in 16 bits.
+fn bad_rate(random: &mut Random) -> u16 {
+    match random.below(4) {
+        0 => random.between(1_499, 1_502) as u16,
+        1 => random.between(14_999, 15_002) as u16,
+        2 => random.between(6_553, 8_054) as u16,
+        _ => random.below(65_536) as u16,
     }
 }
 

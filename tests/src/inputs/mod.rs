@@ -1,9 +1,10 @@
 //! What library and second implementation are compared on: first every boundary, the largest books,
-//! every combination of a list, the limits of specialist funds and the versions of a book (`edges`,
-//! `extremes`, `combinations`, `specialist`, `versions`), then seeded books of any fund (`books`)
-//! and, every fifth, of a specialist one (`specialist`), some of them with faults or damage
-//! (`faults`). The converter has a list of its own (`conversions`), and so have the bills
-//! (`billings`). An input's number and the seed make it again.
+//! every combination of a list, the limits of specialist funds, the versions of a book and those of
+//! a schedule (`edges`, `extremes`, `combinations`, `specialist`, `versions`, `rates`), then seeded
+//! books of any fund (`books`) and, every fifth each, of a specialist one (`specialist`) and under
+//! rates in ten-thousandths (`rates`), some of them with faults or damage (`faults`). The converter
+//! has a list of its own (`conversions`), and so have the bills (`billings`). An input's number and
+//! the seed make it again.
 
 mod billings;
 mod books;
@@ -12,6 +13,7 @@ mod conversions;
 mod edges;
 mod extremes;
 mod faults;
+mod rates;
 mod specialist;
 mod versions;
 
@@ -61,6 +63,7 @@ impl Inputs {
         fixed.extend(combinations::all());
         fixed.extend(specialist::all());
         fixed.extend(versions::all());
+        fixed.extend(rates::all());
         Inputs { seed, fixed }
     }
 
@@ -72,13 +75,23 @@ impl Inputs {
     pub fn get(&self, number: usize) -> Input {
         match self.fixed.get(number) {
             Some(input) => input.clone(),
-            None => seeded(&mut Random::new(self.seed, number as u64), number % 5 == 4),
+            None => seeded(&mut Random::new(self.seed, number as u64), family(number)),
         }
     }
 }
 
-fn seeded(random: &mut Random, specialist: bool) -> Input {
-    let family = if specialist { specialist::random } else { books::random };
+/// Makes a seeded schedule and book.
+type Family = fn(&mut Random) -> (RawSchedule, RawBook);
+
+fn family(number: usize) -> Family {
+    match number % 5 {
+        3 => rates::random,
+        4 => specialist::random,
+        _ => books::random,
+    }
+}
+
+fn seeded(random: &mut Random, family: Family) -> Input {
     let (schedule, mut book) = family(random);
     if random.chance(40) {
         versions::at_desks(random, &mut book);

@@ -3,7 +3,7 @@
 
 use super::books::{self, Parents, Shape};
 use super::extremes::sixteen_tiers;
-use super::Input;
+use super::{rates, Input};
 use crate::random::Random;
 use crate::raw::*;
 
@@ -76,7 +76,7 @@ fn ranks() -> Vec<Input> {
 }
 
 /// A small specialist fund with few groups, most of its assets retrocessions, under rates beside
-/// those of tiers 13 to 15. Now and then it is not marked as one.
+/// those of tiers 13 to 15, in either version. Now and then it is not marked as one.
 pub fn random(random: &mut Random) -> (RawSchedule, RawBook) {
     let shape = Shape {
         counterparties: random.between(1, 6),
@@ -104,6 +104,9 @@ fn random_schedule(random: &mut Random, scale: u64) -> RawSchedule {
     }
     if random.chance(50) {
         schedule.percents = std::array::from_fn(|_| random.pick(&[0, 33, 34, 50, 66, 67, 100]));
+    }
+    if random.chance(25) {
+        schedule = rates::beside_ten_times(random, &schedule);
     }
     schedule
 }

@@ -14,18 +14,29 @@ impl Fraction {
         Fraction { over: number, under: 1 }
     }
 
-    /// `rate` thousandths of `amount`.
-    pub fn per_mille(rate: i128, amount: i128) -> Fraction {
-        Fraction { over: rate * amount, under: 1_000 }
+    /// So many hundredths, thousandths and ten-thousandths.
+    pub fn per_cent(number: u16) -> Fraction {
+        Fraction { over: i128::from(number), under: 100 }
     }
 
-    /// `percent` hundredths of this.
-    pub fn percent(self, percent: i128) -> Fraction {
-        Fraction { over: self.over * percent, under: self.under * 100 }
+    pub fn per_mille(number: u16) -> Fraction {
+        Fraction { over: i128::from(number), under: 1_000 }
     }
 
-    pub fn less(self, number: i128) -> Fraction {
-        Fraction { over: self.over - number * self.under, under: self.under }
+    pub fn ten_thousandths(number: u16) -> Fraction {
+        Fraction { over: i128::from(number), under: 10_000 }
+    }
+
+    /// This part of another.
+    pub fn of(self, other: Fraction) -> Fraction {
+        Fraction { over: self.over * other.over, under: self.under * other.under }
+    }
+
+    pub fn less(self, other: Fraction) -> Fraction {
+        Fraction {
+            over: self.over * other.under - other.over * self.under,
+            under: self.under * other.under,
+        }
     }
 
     /// The greatest whole number that is not above this.

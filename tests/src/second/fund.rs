@@ -144,6 +144,13 @@ fn downgraded_tier([full, first, second]: [Tier; 3], kept: Kept) -> Tier {
     }
 }
 
+/// What a row's rates are taken of, and the W of row d.
+struct Amounts {
+    vaf: i128,
+    base: i128,
+    w: i128,
+}
+
 /// The fund's limit in each tier, with `w` the W of row d.
 pub fn limits<R: Rules>(
     rules: &R,
@@ -155,9 +162,9 @@ pub fn limits<R: Rules>(
     let limit = |tier: Tier| {
         let vaf = if rules.uses_vaf_prime(tier) { values.vaf_prime } else { values.vaf };
         let w = if rules.lessened_by_w(tier) { w } else { 0 };
-        let percent = rules.percent(tier, schedule);
         let row = rules.row(tier, schedule);
-        (tier, row_limit(rules, Some(tier), &row, vaf, base, w, percent))
+        let kept = rules.percent(tier, schedule);
+        (tier, row_limit(rules, schedule, Some(tier), &row, Amounts { vaf, base, w }, kept))
     };
     Tier::ALL.into_iter().map(limit).collect()
 }
@@ -165,18 +172,19 @@ pub fn limits<R: Rules>(
 /// "row z's limit (on VAF′, no percent) the A3 limit".
 pub fn a3_limit<R: Rules>(rules: &R, schedule: &Schedule, base: i128, values: &Values) -> i128 {
     let vaf = rules.a3_vaf(values.vaf, values.vaf_prime);
-    row_limit(rules, None, &schedule.rows[&RowName::Z], vaf, base, 0, 100)
+    let row = &schedule.rows[&RowName::Z];
+    row_limit(rules, schedule, None, row, Amounts { vaf, base, w: 0 }, Fraction::whole(1))
 }
 
 fn row_limit<R: Rules>(
     rules: &R,
+    schedule: &Schedule,
     tier: Option<Tier>,
     row: &Row,
-    vaf: i128,
-    base: i128,
-    w: i128,
-    percent: i128,
+    amounts: Amounts,
+    kept: Fraction,
 ) -> i128 {
-    let [first, second]: [Fraction; 2] = rules.vaf_products(row, vaf, w);
-    rules.limit(tier, [first, second, rules.base_product(row, base)], row.fixed, percent)
+    let [first, second] = rules.vaf_products(row, amounts.vaf, amounts.w);
+    let products = [first, second, rules.base_product(row, amounts.base)];
+    rules.limit(schedule.version, tier, products, row.fixed, kept)
 }

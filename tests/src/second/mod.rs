@@ -1,12 +1,12 @@
-//! A second implementation of document 01, with document 02's requests C-11, C-13 and C-14, written
-//! from the documents and from nothing else.
+//! A second implementation of document 01, with document 02's requests C-11, C-13, C-14 and C-15,
+//! written from the documents and from nothing else.
 //!
 //! It reads bytes into records (`read`), takes values, exposures, tiers and limits from them
 //! (`fund`), sums them by group and cuts what passes a limit (`cascade`), and writes the report
 //! (`write`); a book is converted record by record (`convert`), and desks are billed line by line
-//! (`bills`). Amounts are `i128` and limits exact fractions (`fraction`), so that no bound on them
-//! has to be known. Each sentence that could be got wrong by itself is a method of `rules`; `slip`
-//! has the wrong variants that a comparison must catch.
+//! (`bills`). Amounts are `i128`, rates and limits exact fractions (`fraction`), so that no bound
+//! on them has to be known. Each sentence that could be got wrong by itself is a method of `rules`;
+//! `slip` has the wrong variants that a comparison must catch.
 
 mod bills;
 mod cascade;
@@ -66,7 +66,7 @@ struct Accepted {
 }
 
 fn accepted_by<R: Rules>(rules: &R, schedule: &[u8], book: &[u8]) -> Result<Accepted, Refusal> {
-    let schedule = read::schedule(schedule)?;
+    let schedule = read::schedule(rules, schedule)?;
     let book = read::book(rules, |version| rules.version_passes(version), book)?;
     let values = fund::values(rules, &book);
     if let Some(refusal) = fund::refusal(rules, &book, &values) {

@@ -1,5 +1,5 @@
 //! Bytes to records: the layout of schedule and book, and refusals 1 to 12. Which versions of a book
-//! pass is the entry's.
+//! pass is the entry's; a schedule's rates leave here as parts of one, whatever its version.
 
 use super::records::*;
 use super::rules::Rules;
@@ -16,8 +16,7 @@ const ROWS: [RowName; 8] = [
     RowName::I,
     RowName::Z,
 ];
-const MOST_RATE: i128 = 1_500;
-const MOST_PERCENT: i128 = 100;
+const RATES: [RateName; 3] = [RateName::Vaf, RateName::SecondVaf, RateName::Base];
 const MOST_COUNTERPARTIES: usize = 500;
 const MOST_ASSETS: usize = 900;
 const MOST_MITIGANTS: usize = 1_500;
@@ -74,37 +73,52 @@ fn accept(accepted: bool, refusal: Refusal) -> Result<(), Refusal> {
 }
 
 /// "Schedule, 122 bytes", refusals 1 to 4.
-pub fn schedule(bytes: &[u8]) -> Result<Schedule, Refusal> {
+pub fn schedule<R: Rules>(rules: &R, bytes: &[u8]) -> Result<Schedule, Refusal> {
     accept(bytes.len() == 122, Refusal::ScheduleLength)?;
     let mut bytes = Bytes(bytes);
     accept(bytes.take(4) == b"ACL\0", Refusal::ScheduleMark)?;
-    accept(bytes.u16() == 1, Refusal::ScheduleVersion)?;
-    let schedule = Schedule {
-        first_percent: i128::from(bytes.u16()),
-        second_percent: i128::from(bytes.u16()),
-        rows: ROWS.into_iter().map(|name| (name, row(&mut bytes))).collect(),
-    };
-    accept(schedule_rates_accepted(&schedule), Refusal::ScheduleRates)?;
-    Ok(schedule)
+    let version = bytes.u16();
+    let percents = [bytes.u16(), bytes.u16()];
+    let rows = ROWS.map(|name| stored_row(name, &mut bytes));
+    let passes = rules.schedule_version_passes(version);
+    let accepted = schedule_rates_accepted(rules, version, percents, &rows);
+    let found = [
+        (!passes).then_some(Refusal::ScheduleVersion),
+        (!accepted).then_some(Refusal::ScheduleRates),
+    ];
+    if let Some(refusal) = rules.first_of_schedule(found) {
+        return Err(refusal);
+    }
+    let [first_percent, second_percent] =
+        percents.map(|number| rules.percent_kept(version, number));
+    let rows = rows.iter().map(|stored| (stored.name, row(rules, version, stored))).collect();
+    Ok(Schedule { version, first_percent, second_percent, rows })
 }
 
-fn row(bytes: &mut Bytes) -> Row {
-    Row {
-        vaf_rate: i128::from(bytes.u16()),
-        second_vaf_rate: i128::from(bytes.u16()),
-        base_rate: i128::from(bytes.u16()),
-        fixed: bytes.u64(),
-    }
+fn stored_row(name: RowName, bytes: &mut Bytes) -> StoredRow {
+    StoredRow { name, rates: RATES.map(|rate| (rate, bytes.u16())), fixed: bytes.u64() }
 }
 
 /// "a rate over 1,500, percent over 100 or fixed amount over M" (4).
-fn schedule_rates_accepted(schedule: &Schedule) -> bool {
-    let percents = [schedule.first_percent, schedule.second_percent];
-    percents.into_iter().all(|percent| percent <= MOST_PERCENT)
-        && schedule.rows.values().all(|row| {
-            let rates = [row.vaf_rate, row.second_vaf_rate, row.base_rate];
-            rates.into_iter().all(|rate| rate <= MOST_RATE) && row.fixed <= MOST
-        })
+fn schedule_rates_accepted<R: Rules>(
+    rules: &R,
+    version: u16,
+    percents: [u16; 2],
+    rows: &[StoredRow],
+) -> bool {
+    let row_accepted = |row: &StoredRow| {
+        let mut rates = row.rates.into_iter();
+        rates.all(|(name, number)| rules.row_rate_accepted(version, row.name, name, number))
+            && rules.fixed_accepted(version, row.fixed)
+    };
+    percents.into_iter().all(|percent| rules.percent_accepted(version, percent))
+        && rows.iter().all(row_accepted)
+}
+
+fn row<R: Rules>(rules: &R, version: u16, stored: &StoredRow) -> Row {
+    let [vaf_rate, second_vaf_rate, base_rate] =
+        stored.rates.map(|(name, number)| rules.rate(version, stored.name, name, number));
+    Row { vaf_rate, second_vaf_rate, base_rate, fixed: rules.fixed(version, stored.fixed) }
 }
 
 struct Header {

@@ -1,5 +1,6 @@
 //! What a schedule and a book say, once read: the documents' records by name.
 
+use super::fraction::Fraction;
 use std::collections::BTreeMap;
 
 /// Document 01's M: the most that an amount read may be, in cents.
@@ -21,18 +22,36 @@ pub enum RowName {
     Z,
 }
 
+/// The rates of a row, in their order.
+#[derive(Clone, Copy, Debug, PartialEq, Eq)]
+pub enum RateName {
+    Vaf,
+    SecondVaf,
+    Base,
+}
+
+/// A row as it is stored: what its rates are parts of is the schedule's version to say.
+#[derive(Clone, Copy, Debug)]
+pub struct StoredRow {
+    pub name: RowName,
+    pub rates: [(RateName, u16); 3],
+    pub fixed: i128,
+}
+
+/// A row whose rates are parts of one, whatever the version that they stood in.
 #[derive(Clone, Copy, Debug)]
 pub struct Row {
-    pub vaf_rate: i128,
-    pub second_vaf_rate: i128,
-    pub base_rate: i128,
+    pub vaf_rate: Fraction,
+    pub second_vaf_rate: Fraction,
+    pub base_rate: Fraction,
     pub fixed: i128,
 }
 
 #[derive(Debug)]
 pub struct Schedule {
-    pub first_percent: i128,
-    pub second_percent: i128,
+    pub version: u16,
+    pub first_percent: Fraction,
+    pub second_percent: Fraction,
     pub rows: BTreeMap<RowName, Row>,
 }
 

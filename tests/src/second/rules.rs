@@ -48,6 +48,36 @@ pub trait Rules {
         }
     }
 
+    /// C-15: "Refusal 3 passes 1 and 2 (its example is now 3)".
+    fn schedule_version_passes(&self, version: u16) -> bool {
+        matches!(version, 1 | 2)
+    }
+
+    /// "a rate over 1,500" (4). C-15: "Schedule version 2 has the same layout with rates in
+    /// ten-thousandths, at most 15,000", "and refusal 4 reads 15,000 for version 2". Every rate of
+    /// every row.
+    fn row_rate_accepted(&self, version: u16, _row: RowName, _rate: RateName, number: u16) -> bool {
+        match version {
+            2 => number <= 15_000,
+            _ => number <= 1_500,
+        }
+    }
+
+    /// "percent over 100" (4), in either version of a schedule.
+    fn percent_accepted(&self, _version: u16, percent: u16) -> bool {
+        percent <= 100
+    }
+
+    /// "or fixed amount over M" (4), in either version of a schedule.
+    fn fixed_accepted(&self, _version: u16, fixed: i128) -> bool {
+        fixed <= MOST
+    }
+
+    /// "Checked by rising number": what 3 and 4 find of a schedule.
+    fn first_of_schedule(&self, found: [Option<Refusal>; 2]) -> Option<Refusal> {
+        found.into_iter().flatten().next()
+    }
+
     /// "Checked by rising number": the first bad counterparty, asset and mitigant, if any.
     fn first_bad_record(&self, bad_records: [Option<Refusal>; 3]) -> Option<Refusal> {
         bad_records.into_iter().flatten().next()
@@ -364,10 +394,37 @@ pub trait Rules {
 
     // Limits.
 
+    /// "u16 VAF rate, u16 second VAF rate, u16 base rate (per mille, ..)". C-15: "Schedule version
+    /// 2 has the same layout with rates in ten-thousandths".
+    fn rate(&self, version: u16, _row: RowName, _rate: RateName, number: u16) -> Fraction {
+        match version {
+            2 => Fraction::ten_thousandths(number),
+            _ => Fraction::per_mille(number),
+        }
+    }
+
+    /// "u16 percent kept after the first downgrade step, u16 after the second". C-15 has other
+    /// rates and no other percents.
+    fn percent_kept(&self, _version: u16, percent: u16) -> Fraction {
+        Fraction::per_cent(percent)
+    }
+
+    /// "u64 fixed amount". "Amounts are whole cents", in either version of a schedule.
+    fn fixed(&self, _version: u16, fixed: i128) -> i128 {
+        fixed
+    }
+
     /// "Tier numbers: 0 i, 1 i reinsurance, .., 12 d": each by its letter's row. C-11: "New tiers
-    /// 13, 14 and 15 are 500, 330 and 170 per mille of VAF′, without base or fixed part."
+    /// 13, 14 and 15 are 500, 330 and 170 per mille of VAF′, without base or fixed part." C-15
+    /// leaves "C-11's per mille" what they are, whatever the schedule's version.
     fn row(&self, tier: Tier, schedule: &Schedule) -> Row {
-        let of_vaf_prime = |vaf_rate| Row { vaf_rate, second_vaf_rate: 0, base_rate: 0, fixed: 0 };
+        let none = Fraction::whole(0);
+        let of_vaf_prime = |number| Row {
+            vaf_rate: Fraction::per_mille(number),
+            second_vaf_rate: none,
+            base_rate: none,
+            fixed: 0,
+        };
         match tier {
             Tier::I | Tier::IReinsurance => schedule.rows[&RowName::I],
             Tier::H | Tier::HReinsurance => schedule.rows[&RowName::H],
@@ -383,11 +440,11 @@ pub trait Rules {
     }
 
     /// "times the percent kept": tiers 5 and 8 the first percent, 4 and 7 the second.
-    fn percent(&self, tier: Tier, schedule: &Schedule) -> i128 {
+    fn percent(&self, tier: Tier, schedule: &Schedule) -> Fraction {
         match tier {
             Tier::GFirst | Tier::EFirst => schedule.first_percent,
             Tier::GSecond | Tier::ESecond => schedule.second_percent,
-            _ => 100,
+            _ => Fraction::whole(1),
         }
     }
 
@@ -409,26 +466,29 @@ pub trait Rules {
     /// "rate × VAF, second rate × VAF"; "for d the first rate's product is lessened by W, .., not
     /// below 0" (`w` is 0 for every other row).
     fn vaf_products(&self, row: &Row, vaf: i128, w: i128) -> [Fraction; 2] {
-        let first = Fraction::per_mille(row.vaf_rate, vaf).less(w);
-        [first.max(Fraction::whole(0)), Fraction::per_mille(row.second_vaf_rate, vaf)]
+        let vaf = Fraction::whole(vaf);
+        let first = row.vaf_rate.of(vaf).less(Fraction::whole(w));
+        [first.max(Fraction::whole(0)), row.second_vaf_rate.of(vaf)]
     }
 
     /// "base rate × base (a negative base gives nothing)".
     fn base_product(&self, row: &Row, base: i128) -> Fraction {
-        Fraction::per_mille(row.base_rate, base.max(0))
+        row.base_rate.of(Fraction::whole(base.max(0)))
     }
 
     /// "the greatest of .. and fixed amount, times the percent kept, exact, rounded down once", for
-    /// a tier or, where there is none, for A3.
+    /// a tier or, where there is none, for A3. C-15: "Every limit, of both versions and of C-11's
+    /// per mille, must come from one shown formula."
     fn limit(
         &self,
+        _version: u16,
         _tier: Option<Tier>,
         products: [Fraction; 3],
         fixed: i128,
-        percent: i128,
+        kept: Fraction,
     ) -> i128 {
         let greatest = products.into_iter().fold(Fraction::whole(fixed), Fraction::max);
-        greatest.percent(percent).floor()
+        kept.of(greatest).floor()
     }
 
     // Cascade (P23).

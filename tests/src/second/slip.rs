@@ -59,6 +59,22 @@ slips! {
     Month3Full,
 
     // Refusals.
+    ScheduleVersion0Passes,
+    ScheduleVersion2Refused,
+    ScheduleVersion3Passes,
+    ScheduleVersionByItsLowByte,
+    RatesBeforeTheVersion,
+    Version1RatesUpTo15000Pass,
+    Version1RateTimesTenIn16Bits,
+    Version2RatesOver1500Refused,
+    Version2Rate15000Refused,
+    Version2Rate15001Passes,
+    RatesOfRowCCheckedAlone,
+    RatesOfRowZNotChecked,
+    SecondVafRatesNotChecked,
+    BaseRatesNotChecked,
+    Version2PercentsUpTo1000Pass,
+    Version2FixedAmountsUpTo10MPass,
     Version2Refused,
     Version3Passes,
     VersionByItsLowByte,
@@ -139,6 +155,27 @@ slips! {
     RetrocessionFrom24NotReinsurance,
 
     // Limits.
+    Version1RatesInTenThousandths,
+    Version1SecondVafRateInTenThousandths,
+    Version1BaseRateInTenThousandths,
+    Version1A3RatesInTenThousandths,
+    Version1FixedAmountTenTimes,
+    Version2RatesPerMille,
+    Version2SecondVafRatePerMille,
+    Version2BaseRatePerMille,
+    Version2A3RatesPerMille,
+    Version2FixedAmountATenth,
+    Version2PercentsPerMille,
+    Version2RatesRoundedDownToPerMille,
+    Version2RatesRoundedToTheNearestPerMille,
+    Version2RoundedBeforePercent,
+    WATenth,
+    WTenTimes,
+    WTimes10000In64Bits,
+    LimitsOfSigned64Bits,
+    RetrocessionInTenThousandths,
+    RetrocessionByTheSchedulesVersion,
+    RetrocessionTenTimes,
     RetrocessionWithBase,
     RetrocessionWithFixedAmount,
     RetrocessionInThirds,
@@ -274,6 +311,56 @@ impl Rules for Slip {
         match self {
             Slip::AnyByte12Marks => Some(byte != 0),
             _ => Documents.specialist(byte),
+        }
+    }
+
+    fn schedule_version_passes(&self, version: u16) -> bool {
+        match self {
+            Slip::ScheduleVersion0Passes => matches!(version, 0..=2),
+            Slip::ScheduleVersion2Refused => version == 1,
+            Slip::ScheduleVersion3Passes => matches!(version, 1..=3),
+            Slip::ScheduleVersionByItsLowByte => matches!(version as u8, 1 | 2),
+            _ => Documents.schedule_version_passes(version),
+        }
+    }
+
+    fn row_rate_accepted(&self, version: u16, row: RowName, rate: RateName, number: u16) -> bool {
+        let unchecked = match self {
+            Slip::RatesOfRowCCheckedAlone => row != RowName::C,
+            Slip::RatesOfRowZNotChecked => row == RowName::Z,
+            Slip::SecondVafRatesNotChecked => rate == RateName::SecondVaf,
+            Slip::BaseRatesNotChecked => rate == RateName::Base,
+            _ => false,
+        };
+        match (self, version) {
+            (Slip::Version1RatesUpTo15000Pass, 1) => number <= 15_000,
+            (Slip::Version1RateTimesTenIn16Bits, 1) => number.wrapping_mul(10) <= 15_000,
+            (Slip::Version2RatesOver1500Refused, 2) => number <= 1_500,
+            (Slip::Version2Rate15000Refused, 2) => number < 15_000,
+            (Slip::Version2Rate15001Passes, 2) => number <= 15_001,
+            _ => unchecked || Documents.row_rate_accepted(version, row, rate, number),
+        }
+    }
+
+    fn percent_accepted(&self, version: u16, percent: u16) -> bool {
+        match (self, version) {
+            (Slip::Version2PercentsUpTo1000Pass, 2) => percent <= 1_000,
+            _ => Documents.percent_accepted(version, percent),
+        }
+    }
+
+    fn fixed_accepted(&self, version: u16, fixed: i128) -> bool {
+        match (self, version) {
+            (Slip::Version2FixedAmountsUpTo10MPass, 2) => fixed <= 10 * MOST,
+            _ => Documents.fixed_accepted(version, fixed),
+        }
+    }
+
+    fn first_of_schedule(&self, found: [Option<Refusal>; 2]) -> Option<Refusal> {
+        let [version, rates] = found;
+        match self {
+            Slip::RatesBeforeTheVersion => rates.or(version),
+            _ => Documents.first_of_schedule(found),
         }
     }
 
@@ -796,27 +883,65 @@ impl Rules for Slip {
         }
     }
 
+    fn rate(&self, version: u16, row: RowName, rate: RateName, number: u16) -> Fraction {
+        let per_mille = Fraction::per_mille(number);
+        let in_10000ths = Fraction::ten_thousandths(number);
+        match (self, version, row, rate) {
+            (Slip::Version1RatesInTenThousandths, 1, _, _) => in_10000ths,
+            (Slip::Version1SecondVafRateInTenThousandths, 1, _, RateName::SecondVaf) => in_10000ths,
+            (Slip::Version1BaseRateInTenThousandths, 1, _, RateName::Base) => in_10000ths,
+            (Slip::Version1A3RatesInTenThousandths, 1, RowName::Z, _) => in_10000ths,
+            (Slip::Version2RatesPerMille, 2, _, _) => per_mille,
+            (Slip::Version2SecondVafRatePerMille, 2, _, RateName::SecondVaf) => per_mille,
+            (Slip::Version2BaseRatePerMille, 2, _, RateName::Base) => per_mille,
+            (Slip::Version2A3RatesPerMille, 2, RowName::Z, _) => per_mille,
+            (Slip::Version2RatesRoundedDownToPerMille, 2, _, _) => Fraction::per_mille(number / 10),
+            (Slip::Version2RatesRoundedToTheNearestPerMille, 2, _, _) => {
+                Fraction::per_mille((number + 5) / 10)
+            }
+            _ => Documents.rate(version, row, rate, number),
+        }
+    }
+
+    fn percent_kept(&self, version: u16, percent: u16) -> Fraction {
+        match (self, version) {
+            (Slip::Version2PercentsPerMille, 2) => Fraction::per_mille(percent),
+            _ => Documents.percent_kept(version, percent),
+        }
+    }
+
+    fn fixed(&self, version: u16, fixed: i128) -> i128 {
+        match (self, version) {
+            (Slip::Version1FixedAmountTenTimes, 1) => 10 * fixed,
+            (Slip::Version2FixedAmountATenth, 2) => fixed / 10,
+            _ => Documents.fixed(version, fixed),
+        }
+    }
+
     fn row(&self, tier: Tier, schedule: &Schedule) -> Row {
         let right = Documents.row(tier, schedule);
         if !tier.is_retrocession() {
             return right;
         }
         let e = schedule.rows[&RowName::E];
+        let at = |vaf_rate| Row { vaf_rate, ..right };
+        let a_tenth = at(Fraction::per_cent(10).of(right.vaf_rate));
         match (self, tier) {
             (Slip::RetrocessionWithBase, _) => Row { base_rate: e.base_rate, ..right },
             (Slip::RetrocessionWithFixedAmount, _) => Row { fixed: e.fixed, ..right },
-            (Slip::RetrocessionInThirds, Tier::RetrocessionFirst) => Row { vaf_rate: 333, ..right },
-            (Slip::RetrocessionInThirds, Tier::RetrocessionSecond) => {
-                Row { vaf_rate: 167, ..right }
-            }
+            (Slip::RetrocessionInThirds, Tier::RetrocessionFirst) => at(Fraction::per_mille(333)),
+            (Slip::RetrocessionInThirds, Tier::RetrocessionSecond) => at(Fraction::per_mille(167)),
             (Slip::RetrocessionByPercentsKept | Slip::RetrocessionRoundedBeforePercent, _) => {
-                Row { vaf_rate: 500, ..right }
+                at(Fraction::per_mille(500))
             }
+            (Slip::RetrocessionInTenThousandths, _) => a_tenth,
+            (Slip::RetrocessionByTheSchedulesVersion, _) if schedule.version == 2 => a_tenth,
+            (Slip::RetrocessionTenTimes, _) => at(Fraction::whole(10).of(right.vaf_rate)),
             _ => right,
         }
     }
 
-    fn percent(&self, tier: Tier, schedule: &Schedule) -> i128 {
+    fn percent(&self, tier: Tier, schedule: &Schedule) -> Fraction {
         match (self, tier) {
             (
                 Slip::RetrocessionByPercentsKept | Slip::RetrocessionPercentsKeptToo,
@@ -826,8 +951,12 @@ impl Rules for Slip {
                 Slip::RetrocessionByPercentsKept | Slip::RetrocessionPercentsKeptToo,
                 Tier::RetrocessionSecond,
             ) => schedule.second_percent,
-            (Slip::RetrocessionRoundedBeforePercent, Tier::RetrocessionFirst) => 66,
-            (Slip::RetrocessionRoundedBeforePercent, Tier::RetrocessionSecond) => 34,
+            (Slip::RetrocessionRoundedBeforePercent, Tier::RetrocessionFirst) => {
+                Fraction::per_cent(66)
+            }
+            (Slip::RetrocessionRoundedBeforePercent, Tier::RetrocessionSecond) => {
+                Fraction::per_cent(34)
+            }
             (Slip::PercentsExchanged, Tier::GFirst | Tier::EFirst) => schedule.second_percent,
             (Slip::PercentsExchanged, Tier::GSecond | Tier::ESecond) => schedule.first_percent,
             _ => Documents.percent(tier, schedule),
@@ -859,9 +988,19 @@ impl Rules for Slip {
 
     fn vaf_products(&self, row: &Row, vaf: i128, w: i128) -> [Fraction; 2] {
         let [first, second] = Documents.vaf_products(row, vaf, w);
+        let lessened = |product: Fraction, w| product.less(w).max(Fraction::whole(0));
+        let [unlessened, _] = Documents.vaf_products(row, vaf, 0);
+        let in_64_bits = Fraction::whole(i128::from((10_000 * w) as u64));
         match self {
-            Slip::WIgnored => Documents.vaf_products(row, vaf, 0),
-            Slip::WLessensSecondRate => [first, second.less(w).max(Fraction::whole(0))],
+            Slip::WIgnored => [unlessened, second],
+            Slip::WLessensSecondRate => [first, lessened(second, Fraction::whole(w))],
+            Slip::WATenth => {
+                [lessened(unlessened, Fraction::per_cent(10).of(Fraction::whole(w))), second]
+            }
+            Slip::WTenTimes => [lessened(unlessened, Fraction::whole(10 * w)), second],
+            Slip::WTimes10000In64Bits => {
+                [lessened(unlessened, Fraction::ten_thousandths(1).of(in_64_bits)), second]
+            }
             Slip::SecondRateIgnored => [first, first],
             _ => [first, second],
         }
@@ -876,20 +1015,27 @@ impl Rules for Slip {
 
     fn limit(
         &self,
+        version: u16,
         tier: Option<Tier>,
         products: [Fraction; 3],
         fixed: i128,
-        percent: i128,
+        kept: Fraction,
     ) -> i128 {
-        let right = Documents.limit(tier, products, fixed, percent);
-        let rounded_before_percent = || Documents.limit(tier, products, fixed, 100) * percent / 100;
-        let rounded_up = || {
-            let greatest = products.into_iter().fold(Fraction::whole(fixed), Fraction::max);
-            right + i128::from(Fraction::whole(right) < greatest.percent(percent))
+        let right = Documents.limit(version, tier, products, fixed, kept);
+        let exact = kept.of(products.into_iter().fold(Fraction::whole(fixed), Fraction::max));
+        let rounded_before_percent = || {
+            let full = Documents.limit(version, tier, products, fixed, Fraction::whole(1));
+            kept.of(Fraction::whole(full)).floor()
         };
+        let rounded_up = || right + i128::from(Fraction::whole(right) < exact);
         let retrocession = tier.is_some_and(Tier::is_retrocession);
         match self {
             Slip::RoundedBeforePercent => rounded_before_percent(),
+            Slip::Version2RoundedBeforePercent if version == 2 => rounded_before_percent(),
+            Slip::LimitsOfSigned64Bits => {
+                let millionths = Fraction::whole(1_000_000).of(exact).floor();
+                i128::from(millionths as i64 / 1_000_000)
+            }
             Slip::RetrocessionRoundedBeforePercent if retrocession => rounded_before_percent(),
             Slip::FixedAmountKeptWhole => right.max(fixed),
             Slip::RoundedUp => rounded_up(),

@@ -4,7 +4,7 @@ use native.Mathlib.Omega.{arith}
 use lib.IntN.{ℤ}
 use mir.Syntax.{w64}
 use mir.Facts.{toZ-ofZ}
-use Rattle.schedule.specs.Tiers.{a3LimitOf}
+use Rattle.schedule.specs.Tiers.{a3LimitOf, a3LimitIn}
 use Rattle.schedule.proofs.Asked.{asked}
 use Rattle.schedule.proofs.a3_limit.Statement.{statement}
 use Rattle.schedule.proofs.a3_limit.Tie as tie
@@ -13,7 +13,7 @@ limit-requires : tie.Need-limit-requires
 limit-requires c κs = asked (c .fits .base) (c .pre .0 .z) (omega arith) (c .pre .1 .0) (c .pre .1 .1)
 
 returns : tie.Need-returns
-unfolding a3LimitOf
+unfolding a3LimitIn
 returns c =
     let s = c .before in
     (c .limit .ensures .0 ∙ ap (λ (b : ℤ). a3LimitOf (s .args .s) (s .args .stressed) b) (toZ-ofZ {w = w64} (s .fits .base)), c .limit .ensures .1)

@@ -5,7 +5,7 @@ use native.Mathlib.Omega.{arith}
 use lib.IntN.{ℤ}
 use mir.Syntax.{w64}
 use mir.Facts.{toZ-ofZ}
-use Rattle.schedule.specs.Tiers.{limits}
+use Rattle.schedule.specs.Tiers.{limits, limitsIn}
 use Rattle.schedule.specs.TierLaws.{alone-fits}
 use Rattle.schedule.proofs.Asked.{asked}
 use borrow.Author.Needs.{needs}
@@ -93,7 +93,7 @@ limit-requires-16 c κs =
     asked (s .fits .base) (alone-fits (omega arith)) (omega arith) (omega arith) (s .pre .1 .2)
 
 returns : tie.Need-returns
-unfolding limits
+unfolding limitsIn
 returns c =
     let s = c .before .before .before .before .before .before .before .before .before .before .before .before .before .before .before .before .before .before .before in
     let a = s .args in

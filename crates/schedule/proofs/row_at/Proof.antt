@@ -6,7 +6,7 @@ use Rattle.schedule.proofs.row_at.Tie as tie
 
 returns : tie.Need-returns
 returns c =
-    row-by _ _
+    row-by _ _ _
     (c .before .before .before .rate-at .ensures)
     (c .before .before .rate-at2 .ensures)
     (c .before .rate-at3 .ensures)

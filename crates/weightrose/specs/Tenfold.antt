@@ -1,0 +1,31 @@
+-- C-15: a schedule of version 1, and the schedule of version 2 that has ten times its rates, get the same answers and the same bytes, whatever the book and
+-- the buffer: same-answer, same-report, same-bill-answer, same-bills.
+use mathlib.Core.List.{List}
+use mathlib.Core.Path.{_≡_, refl, ap}
+use Prim.Native.Nat.{ℕ}
+use Rattle.figures.specs.Fund.{Fund}
+use Rattle.bills.specs.Bills.{deskExcess, billBytes}
+use Rattle.schedule.specs.CountLaws.{Tenfold, tenfold-counts, tenfold-check}
+use Rattle.report.specs.Answer.{fundIn, reportOf, checkOf, answerOf}
+use Rattle.billing.specs.Billed.{linesOf, excessIn, billsOf, billCheck, billAnswer}
+
+module _ {s s′ : List ℕ} (t : Tenfold s s′) (book : List ℕ) where
+  same-fund : fundIn s′ book ≡ fundIn s book
+  unfolding fundIn
+  same-fund = rw (tenfold-counts t) refl
+
+  pub same-report : reportOf s′ book ≡ reportOf s book
+  unfolding reportOf
+  same-report = rw same-fund refl
+
+  pub same-answer : (buffer : ℕ) → answerOf s′ book buffer ≡ answerOf s book buffer
+  unfolding answerOf checkOf
+  same-answer buffer = rw (tenfold-check t, same-report) refl
+
+  pub same-bills : (rate : ℕ) → billsOf s′ book rate ≡ billsOf s book rate
+  unfolding billsOf excessIn
+  same-bills rate = ap (λ (F : Fund). billBytes (λ d. deskExcess F (linesOf book) d) rate) same-fund
+
+  pub same-bill-answer : (rate buffer : ℕ) → billAnswer s′ book rate buffer ≡ billAnswer s book rate buffer
+  unfolding billAnswer billCheck
+  same-bill-answer rate buffer = rw (tenfold-check t) refl
