@@ -344,20 +344,29 @@ expect_line(const char *name, const uint8_t *line, const struct line *expected)
 		       expected->amounts[i], name);
 }
 
-static void
-t2(void)
+/* One ungraded name, with 3,000,000.00 each in kinds 11 and 6, and the tiers that it has. */
+enum { T2_TIERS = 1 << WEIGHTROSE_TIER_I | 1 << WEIGHTROSE_TIER_H };
+
+static struct ledger
+t2_ledger(void)
 {
-	enum { TIERS = 1 << WEIGHTROSE_TIER_I | 1 << WEIGHTROSE_TIER_H };
 	static const struct counterparty names[] = { { NO_PARENT, 0, UNGRADED, 0 } };
 	static const struct asset assets[] = {
 		{ ANY_OTHER, 1, 300000000, 0, 0, NO_ENTRY, 0 },
 		{ TRADED, 1, 300000000, 0, 0, NO_ENTRY, 0 },
 	};
+
+	return ledger_of(names, COUNT(names), assets, COUNT(assets));
+}
+
+static void
+t2(void)
+{
 	static const struct line lines[] = {
-		{ 1, WEIGHTROSE_TIER_I, TIERS, { 300000000, 250000000, 250000000, 50000000 } },
-		{ 1, WEIGHTROSE_TIER_H, TIERS, { 300000000, 500000000, 250000000, 50000000 } },
+		{ 1, WEIGHTROSE_TIER_I, T2_TIERS, { 300000000, 250000000, 250000000, 50000000 } },
+		{ 1, WEIGHTROSE_TIER_H, T2_TIERS, { 300000000, 500000000, 250000000, 50000000 } },
 	};
-	struct ledger ledger = ledger_of(names, COUNT(names), assets, COUNT(assets));
+	struct ledger ledger = t2_ledger();
 	struct block report = new_report("T2", &ledger);
 
 	expect(report.length == WEIGHTROSE_REPORT_HEADER_SIZE + 2 * WEIGHTROSE_REPORT_LINE_SIZE,
@@ -1011,17 +1020,11 @@ fine_schedule_refusals(struct block book)
 static void
 rates(void)
 {
-	enum { TIERS = 1 << WEIGHTROSE_TIER_I | 1 << WEIGHTROSE_TIER_H };
-	static const struct counterparty names[] = { { NO_PARENT, 0, UNGRADED, 0 } };
-	static const struct asset assets[] = {
-		{ ANY_OTHER, 1, 300000000, 0, 0, NO_ENTRY, 0 },
-		{ TRADED, 1, 300000000, 0, 0, NO_ENTRY, 0 },
-	};
 	static const struct line lines[] = {
-		{ 1, WEIGHTROSE_TIER_I, TIERS, { 300000000, 250000000, 250000000, 50000000 } },
-		{ 1, WEIGHTROSE_TIER_H, TIERS, { 300000000, 437000000, 187000000, 113000000 } },
+		{ 1, WEIGHTROSE_TIER_I, T2_TIERS, { 300000000, 250000000, 250000000, 50000000 } },
+		{ 1, WEIGHTROSE_TIER_H, T2_TIERS, { 300000000, 437000000, 187000000, 113000000 } },
 	};
-	struct ledger ledger = ledger_of(names, COUNT(names), assets, COUNT(assets));
+	struct ledger ledger = t2_ledger();
 	struct block book = new_book(&ledger);
 	struct block per_mille = new_schedule();
 	struct block schedule = new_fine_schedule();

@@ -317,10 +317,12 @@ fn reports(options: &Options) -> Result<(), String> {
         return Err("a refusal or a tier was not met under a version of schedules".to_string());
     }
     let compared = met.inputs.all;
-    let (fixed, seconds) = (inputs.fixed(), start.elapsed().as_secs_f64());
-    println!(
-        "compared on {compared} inputs, the first {fixed} fixed: no difference, {seconds:.1} s"
-    );
+    let which = match numbers(options.only, options.inputs).len() as u64 - compared {
+        0 => format!("the first {} fixed", inputs.fixed()),
+        left_out => format!("{left_out} left out"),
+    };
+    let seconds = start.elapsed().as_secs_f64();
+    println!("compared on {compared} inputs, {which}: no difference, {seconds:.1} s");
     Ok(())
 }
 
