@@ -7,7 +7,8 @@ use Rattle.words.specs.Words.{every}
 use Rattle.wire.specs.Bytes.{M, bytes16, placed}
 use Rattle.book.specs.Build.{bookBytes, specialistBytes}
 use Rattle.schedule.specs.declared.Schedule.{Schedule}
-use Rattle.schedule.specs.Schedule.{timesAll, published, scheduleBytes}
+use Rattle.schedule.specs.Schedule.{published, scheduleBytes}
+use Rattle.schedule.specs.PublishedLaws.{published2}
 use Rattle.cases.specs.Build.{plain, entered, usual, name, gradedName, bank}
 use Rattle.cases.specs.Reading.{vafIn, vaf′In, a3LimitIn, printed, line}
 use Rattle.cases.specs.Table.{Case, publishedBytes, right}
@@ -20,7 +21,7 @@ version2 s = set (scheduleBytes s) 4 2
 
 -- ten times the published rates; the same with another rate in row h, and in row z
 abbrev tenfold : List ℕ
-tenfold = version2 (timesAll 10 published)
+tenfold = published2
 
 abbrev withH : ℕ → List ℕ
 withH rate = placed tenfold 80 (bytes16 rate)

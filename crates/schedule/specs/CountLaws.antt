@@ -43,44 +43,40 @@ counted-fits s =
     let S = writtenOf s in
     rw (row (S .c), row (S .d), row (S .e), row (S .f), row (S .g), row (S .h), row (S .i), row (S .z))
 
-module _ (S : Schedule) (vaf vaf′ : ℕ) (base : ℤ) (w : ℕ) where
-  per-mille-limits : limits (timesAll 10 S) vaf vaf′ base w ≡ limitsIn perMille S vaf vaf′ base w
-  unfolding limitsIn
-  per-mille-limits =
-      rw (
-        per-mille (S .i) 100 vaf base 0,
-        per-mille (S .i) 100 vaf′ base 0,
-        per-mille (S .h) 100 vaf base 0,
-        per-mille (S .h) 100 vaf′ base 0,
-        per-mille (S .g) (S .second) vaf′ base 0,
-        per-mille (S .g) (S .first) vaf′ base 0,
-        per-mille (S .g) 100 vaf′ base 0,
-        per-mille (S .e) (S .second) vaf′ base 0,
-        per-mille (S .e) (S .first) vaf′ base 0,
-        per-mille (S .e) 100 vaf′ base 0,
-        per-mille (S .f) 100 vaf base 0,
-        per-mille (S .c) 100 vaf base 0,
-        per-mille (S .d) 100 vaf base w,
-        per-mille (rateAlone 500) 100 vaf′ base 0,
-        per-mille (rateAlone 330) 100 vaf′ base 0,
-        per-mille (rateAlone 170) 100 vaf′ base 0,
-      )
-
-  per-mille-a3 : a3LimitOf (timesAll 10 S) vaf′ base ≡ a3LimitIn perMille S vaf′ base
-  unfolding a3LimitIn
-  per-mille-a3 = per-mille (S .z) 100 vaf′ base 0
+per-mille-limits : (S : Schedule) (vaf vaf′ : ℕ) (base : ℤ) (w : ℕ) → limits (timesAll 10 S) vaf vaf′ base w ≡ limitsIn perMille S vaf vaf′ base w
+unfolding limitsIn
+per-mille-limits S vaf vaf′ base w =
+    rw (
+      per-mille (S .i) 100 vaf base 0,
+      per-mille (S .i) 100 vaf′ base 0,
+      per-mille (S .h) 100 vaf base 0,
+      per-mille (S .h) 100 vaf′ base 0,
+      per-mille (S .g) (S .second) vaf′ base 0,
+      per-mille (S .g) (S .first) vaf′ base 0,
+      per-mille (S .g) 100 vaf′ base 0,
+      per-mille (S .e) (S .second) vaf′ base 0,
+      per-mille (S .e) (S .first) vaf′ base 0,
+      per-mille (S .e) 100 vaf′ base 0,
+      per-mille (S .f) 100 vaf base 0,
+      per-mille (S .c) 100 vaf base 0,
+      per-mille (S .d) 100 vaf base w,
+      per-mille (rateAlone 500) 100 vaf′ base 0,
+      per-mille (rateAlone 330) 100 vaf′ base 0,
+      per-mille (rateAlone 170) 100 vaf′ base 0,
+    )
 
 -- a schedule's rates, by its version
 by-version : (s : List ℕ) {v : ℕ} → version s ≡ v → scheduleOf s ≡ timesAll (counts v) (writtenOf s)
 unfolding scheduleOf
 by-version s e = ap (λ (v : ℕ). timesAll (counts v) (writtenOf s)) e
 
-module _ (s : List ℕ) (e : version s ≡ 1) (vaf vaf′ : ℕ) (base : ℤ) (w : ℕ) where
-  pub stays : limits (scheduleOf s) vaf vaf′ base w ≡ limitsIn perMille (writtenOf s) vaf vaf′ base w
-  stays = rw (by-version s e) (per-mille-limits (writtenOf s) vaf vaf′ base w)
+module _ (s : List ℕ) (e : version s ≡ 1) where
+  pub stays : (vaf vaf′ : ℕ) (base : ℤ) (w : ℕ) → limits (scheduleOf s) vaf vaf′ base w ≡ limitsIn perMille (writtenOf s) vaf vaf′ base w
+  stays vaf vaf′ base w = rw (by-version s e) (per-mille-limits (writtenOf s) vaf vaf′ base w)
 
-  pub stays-a3 : a3LimitOf (scheduleOf s) vaf′ base ≡ a3LimitIn perMille (writtenOf s) vaf′ base
-  stays-a3 = rw (by-version s e) (per-mille-a3 (writtenOf s) vaf vaf′ base w)
+  pub stays-a3 : (vaf′ : ℕ) (base : ℤ) → a3LimitOf (scheduleOf s) vaf′ base ≡ a3LimitIn perMille (writtenOf s) vaf′ base
+  unfolding a3LimitIn
+  stays-a3 vaf′ base = rw (by-version s e) (per-mille (writtenOf s .z) 100 vaf′ base 0)
 
 pub record Tenfold (s s′ : List ℕ) : Type 0 where
   pub first : version s ≡ 1

@@ -196,6 +196,7 @@ fn marked(s: &[u8]) -> bool
     (s[0] == b'A') & (s[1] == b'C') & (s[2] == b'L') & (s[3] == 0)
 }
 
+// Refusal 4's test of a row, and of a schedule, by what its rates count.
 fn row_fits(row: Row) -> bool
     ensures { λ r. ⌜ r ≡ rowFits mostRate row ⌝ }
 {
