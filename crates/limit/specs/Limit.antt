@@ -17,7 +17,7 @@ perMille = 1000
 abbrev pub tenThousandths : ℕ
 tenThousandths = 10000
 
--- C-15: a rate "counts ten times", or any other times; the fixed amount is in cents and stays
+-- C-15: a rate "counts ten times", here n times; the fixed amount is in cents and stays
 abbrev pub timesRow : ℕ → Row → Row
 timesRow n row = record { rate = n * row .rate; second = n * row .second; «base_rate» = n * row .«base_rate»; fixed = row .fixed }
 

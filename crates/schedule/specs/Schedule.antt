@@ -86,7 +86,7 @@ timesAll n s =
       z = timesRow n (s .z);
     }
 
--- what limits are taken from
+-- the schedule in ten-thousandths, from which its limits are taken
 unfoldable pub scheduleOf : List ℕ → Schedule
 scheduleOf s = timesAll (counts (version s)) (writtenOf s)
 
