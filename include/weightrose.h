@@ -5,7 +5,8 @@
  * asset concentration charge, or answers with one refusal.
  *
  * A book of the first version can be turned into one of the second, which names desks, and the
- * desks can be billed for what the charge costs.
+ * desks can be billed for what the charge costs. Dealers can ask how much more may be bought before
+ * the charge rises.
  *
  * All functions are plain computations over the bytes handed to them: they allocate nothing,
  * read and write no file, keep nothing between calls and share nothing between threads, so any
@@ -68,6 +69,13 @@ extern "C" {
 
 /* The most that a cost rate may be, in ten-thousandths. */
 #define WEIGHTROSE_MOST_COST_RATE 1000
+
+/* Bytes of a dealer's question and of its answer, the most questions of a list, and the most bytes
+ * of their answers: a buffer of that size is never too short. */
+#define WEIGHTROSE_QUESTION_SIZE 3
+#define WEIGHTROSE_ANSWER_SIZE 8
+#define WEIGHTROSE_MOST_QUESTIONS 200
+#define WEIGHTROSE_MOST_ANSWERS_SIZE 1600
 
 /* ========================================================================== */
 /*                                  Layouts                                   */
@@ -134,7 +142,13 @@ extern "C" {
  *    2  u16  counterparty
  *    4  u64  value
  *
- * The report's layout is below, with the names of its fields, and so is that of the bills.
+ * Question, at most 200 of them one behind the other in a list, in any order, any of them more than
+ * once
+ *    0  u16  counterparty
+ *    2       kind of asset, 1 to 11 as above, but not 9
+ *
+ * The report's layout is below, with the names of its fields, and so are those of the bills and of
+ * the answers to questions.
  */
 
 /*
@@ -146,9 +160,9 @@ extern "C" {
  * specialist funds keep their 500, 330 and 170 per mille of VAF' under schedules of either
  * version. The published schedule is of version 1. A schedule of version 1 becomes one of version
  * 2 by a 2 in byte 4 and ten times each of its 24 rates, and by nothing else: under both of them
- * every book gets the same answer and the same bytes, of the report and of the bills. The way back
- * is open where ten divides each rate. The cost rate of weightrose_bills() is no part of a
- * schedule and is in ten-thousandths always.
+ * every book gets the same answer and the same bytes, of the report, of the bills and of what
+ * questions are answered. The way back is open where ten divides each rate. The cost rate of
+ * weightrose_bills() is no part of a schedule and is in ten-thousandths always.
  */
 
 /*
@@ -182,13 +196,14 @@ extern "C" {
 /* ========================================================================== */
 
 /*
- * Why a schedule, a book, a cost rate or a buffer was turned back, and the answer is the first
- * check that fails. weightrose_report() makes them by rising number, but for 17, which is checked
- * after 13 and before 14. weightrose_convert() makes them in the order 5 to 13, 17, 14, 15, 18, 16,
- * and weightrose_bills() in the order 1 to 13, 17, 14, 15, 19, 16.
+ * Why a schedule, a book, a cost rate, a list of questions or a buffer was turned back, and the
+ * answer is the first check that fails. weightrose_report() makes them in the order 1 to 13, 17,
+ * 14, 15, 16, weightrose_convert() in the order 5 to 13, 17, 14, 15, 18, 16, weightrose_bills() in
+ * the order 1 to 13, 17, 14, 15, 19, 16, and weightrose_headroom() in the order 1 to 13, 17, 14,
+ * 15, 20, 21.
  */
 enum weightrose_refusal {
-	/* Nothing was refused: there is a report, a converted book, or bills. */
+	/* Nothing was refused: there is a report, a converted book, bills, or answers to questions. */
 	WEIGHTROSE_ACCEPTED = 0,
 	/* The schedule is not of 122 bytes. */
 	WEIGHTROSE_SCHEDULE_LENGTH = 1,
@@ -231,11 +246,17 @@ enum weightrose_refusal {
 	 * is its own, the first such asset's. Checked after 15 and before 16. */
 	WEIGHTROSE_MANY_MITIGANTS = 18,
 	/* The cost rate is over 1,000 ten-thousandths. Checked after 15 and before 16. */
-	WEIGHTROSE_COST_RATE = 19
+	WEIGHTROSE_COST_RATE = 19,
+	/* The list of questions is not of three bytes a question or has more than 200 of them, or one
+	 * has a place that is no counterparty's of the book or a kind other than 1 to 8, 10 and 11.
+	 * The place is 0. Checked after 15 and before 21. */
+	WEIGHTROSE_QUESTIONS = 20,
+	/* The buffer is shorter than eight bytes a question. Checked last. */
+	WEIGHTROSE_ANSWERS_SHORT = 21
 };
 
-/* The refusal of an answer of weightrose_report(), weightrose_convert() or weightrose_bills(),
- * WEIGHTROSE_ACCEPTED where bytes were written. */
+/* The refusal of an answer of weightrose_report(), weightrose_convert(), weightrose_bills() or
+ * weightrose_headroom(), WEIGHTROSE_ACCEPTED where bytes were written or no question was asked. */
 static inline enum weightrose_refusal
 weightrose_refusal_of(uint64_t answer)
 {
@@ -251,8 +272,8 @@ weightrose_place_of(uint64_t answer)
 	return (uint32_t)answer;
 }
 
-/* The bytes that were written: those of the report, of the converted book, or of the bills. Only
- * for an answer without a refusal. */
+/* The bytes that were written: those of the report, of the converted book, of the bills, or of the
+ * answers to questions. Only for an answer without a refusal. */
 static inline size_t
 weightrose_length_of(uint64_t answer)
 {
@@ -336,10 +357,58 @@ weightrose_bills(const uint8_t *schedule, size_t schedule_len,
 		 uint8_t *bills, size_t bills_len);
 
 /*
+ * weightrose_headroom() answers how much more may be bought. It reads 'schedule_len' bytes at
+ * 'schedule', 'book_len' bytes at 'book', a book of either version, and 'questions_len' bytes at
+ * 'questions', a list of questions of WEIGHTROSE_QUESTION_SIZE bytes each, and changes none of
+ * them. If schedule and book would be accepted by weightrose_report(), whatever the length of the
+ * report, the length of the list is three times the number of its questions, these are at most
+ * WEIGHTROSE_MOST_QUESTIONS, each of them has a place from 1 to the book's number of counterparties
+ * and a kind from 1 to 11 other than 9, and 'answers_len' is not below WEIGHTROSE_ANSWER_SIZE times
+ * the number of questions, it writes their answers at 'answers', in the order of the questions, and
+ * returns their length; bytes behind them stay as they were. An empty list, of 0 bytes, is accepted
+ * and gets no answers: their length is 0, and so is all that is returned. Otherwise it returns a
+ * refusal, WEIGHTROSE_QUESTIONS before WEIGHTROSE_ANSWERS_SHORT, both after all refusals of
+ * schedule and book, and changes no byte of the buffer; WEIGHTROSE_BUFFER_SHORT is none of its
+ * refusals. What it returns is taken apart as the answers of weightrose_report(), and the same
+ * holds of pointers, threads and what the buffer has beforehand; the list, too, must be apart from
+ * the buffer, and no other thread may change it during the call.
+ *
+ * A question is about a tier of a group: the tier of an asset of that kind with that counterparty,
+ * not linked and without mitigants, as in the report, and the group that the counterparty is in,
+ * whether or not the group has an exposure in that tier or any at all. Its answer is the greatest
+ * amount, in cents, up to WEIGHTROSE_MOST_AMOUNT, that can be added to what the group has in that
+ * tier without raising the charge: with the answer added the charge is the same, and with one cent
+ * more it is greater, unless the answer is WEIGHTROSE_MOST_AMOUNT. Where the asset would have no
+ * limit (kind 1 with the home government, kind 2 with a related registered life company), the
+ * answer is WEIGHTROSE_MOST_AMOUNT.
+ *
+ * All else is held as the report has it: the total assets, VAF and VAF', every tier's limit, and
+ * with it what bank bills take off the limit of deposits, WEIGHTROSE_HEADER_A3_SUM and
+ * WEIGHTROSE_HEADER_A3_LIMIT. More bank bills may be bought as if they left the limit of deposits
+ * alone. A charge that is there already takes no room by itself: an excess under Attachment A,
+ * paragraph 3, or of another group changes no answer. It follows that the answer is the least of
+ * WEIGHTROSE_MOST_AMOUNT and of the rooms at the tier itself and at each tier of the group that
+ * ranks above it, as the report's lines rank. The room at a tier is its limit less what stands in
+ * it and in all tiers of the group that rank below it, and what stands in a tier is
+ * WEIGHTROSE_LINE_EXPOSURE less WEIGHTROSE_LINE_EXCESS of the report's line, 0 where there is none.
+ * The answer is 0, then, at a tier with an excess and at every tier of its group that ranks below
+ * it, even at one that is within its own limit.
+ *
+ * All questions go through one reading of the book, and each is answered by itself, as if nothing
+ * was bought on the answers before it: its answer is the one that it gets in a list of its own.
+ * What is bought on one answer can take the room of another: buy, and ask again with the new book.
+ */
+uint64_t
+weightrose_headroom(const uint8_t *schedule, size_t schedule_len,
+		    const uint8_t *book, size_t book_len,
+		    const uint8_t *questions, size_t questions_len,
+		    uint8_t *answers, size_t answers_len);
+
+/*
  * weightrose_published() writes the published schedule (LPS 117, Attachment A, paragraphs 1 to 3),
  * of version 1, 122 bytes, at 'schedule' and returns 122; bytes behind these stay as they were. If
  * 'schedule_len' is below 122, it returns 0 and changes nothing. The schedule it writes is always
- * accepted by weightrose_report() and weightrose_bills().
+ * accepted by weightrose_report(), weightrose_bills() and weightrose_headroom().
  */
 uint64_t
 weightrose_published(uint8_t *schedule, size_t schedule_len);
@@ -439,6 +508,34 @@ static inline uint64_t
 weightrose_bill(const uint8_t *bills, unsigned desk)
 {
 	return weightrose_u64(bills + (size_t)desk * WEIGHTROSE_BILL_SIZE);
+}
+
+/* ========================================================================== */
+/*                         Questions and their answers                        */
+/* ========================================================================== */
+
+/*
+ * Answers are unsigned numbers of 64 bits, one behind the other, in the order of the questions.
+ * They are whole cents, and none is over WEIGHTROSE_MOST_AMOUNT.
+ */
+
+/* Writes the question of that number, from 0, into a list: how much more of that kind may be bought
+ * with the counterparty at that place, from 1. */
+static inline void
+weightrose_ask(uint8_t *questions, unsigned number, uint16_t counterparty, uint8_t kind)
+{
+	uint8_t *question = questions + (size_t)number * WEIGHTROSE_QUESTION_SIZE;
+
+	question[0] = (uint8_t)(counterparty & 0xff);
+	question[1] = (uint8_t)(counterparty >> 8);
+	question[2] = kind;
+}
+
+/* The answer to the question of that number, from 0. */
+static inline uint64_t
+weightrose_answer(const uint8_t *answers, unsigned number)
+{
+	return weightrose_u64(answers + (size_t)number * WEIGHTROSE_ANSWER_SIZE);
 }
 
 #ifdef __cplusplus

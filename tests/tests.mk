@@ -8,8 +8,9 @@
 #     tests-install   the C ledger against an installed library
 #     compare-long    the comparison on a million inputs (LONG_INPUTS, SEED)
 #     compare-before  the library against another build of it, BEFORE_LIB=.., in place of the second
-#                     implementation: every report's answer and every byte lent; where that build
-#                     does not know version 2 of a schedule,
+#                     implementation: every answer and every byte lent of the reports and, where
+#                     that build has weightrose_headroom, of the questions; where it does not know
+#                     version 2 of a schedule,
 #                     BEFORE_FLAGS='--without-schedule-version 2', and where it does not know
 #                     version 2 of a book either, '--without-version 2' besides
 #     bench           times of the library and of the second implementation; with YARDSTICK_LIB=..,
@@ -55,6 +56,7 @@ compare-before: $(WEIGHTROSE_LIB)
 	objcopy --redefine-sym weightrose_report=peer_report \
 	    --redefine-sym weightrose_convert=peer_convert \
 	    --redefine-sym weightrose_bills=peer_bills \
+	    --redefine-sym weightrose_headroom=peer_headroom \
 	    --redefine-sym weightrose_published=peer_published $(BEFORE_LIB) $(TESTS_OUT)/libbefore.a
 	$(CARGO_ENV) YARDSTICK_LIB=$(abspath $(TESTS_OUT)/libbefore.a) \
 	    $(CARGO) run $(CARGO_FLAGS) --profile checked --bin compare -- \

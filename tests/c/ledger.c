@@ -6,9 +6,9 @@
  * checks itself against document 01's figures (T2, T4, T5 and the table of refusals) and those of
  * document 02's specialist funds (C-11), converts its book to version 2 and books its assets by
  * desk (C-13), bills the desks for the capital that their excesses tie up (C-14), moves its
- * schedule to rates in ten-thousandths (C-15), and ends with status 1 where anything differs. Each
- * block is as long as its bytes, so that a memory checker sees any byte read or written past its
- * end.
+ * schedule to rates in ten-thousandths (C-15), asks how much more its dealers may buy (C-16), and
+ * ends with status 1 where anything differs. Each block is as long as its bytes, so that a memory
+ * checker sees any byte read or written past its end.
  */
 #include "weightrose.h"
 
@@ -19,8 +19,16 @@
 
 /* ---- The ledger's own records ---- */
 
-enum { NO_PARENT = 0, BANK = 1, UNGRADED = 0 };
-enum { BANK_BILL = 3, DEPOSIT = 4, TRADED = 6, REINSURANCE = 9, ANY_OTHER = 11 };
+enum { NO_PARENT = 0, BANK = 1, HOME_GOVERNMENT = 2, UNGRADED = 0 };
+enum {
+	GOVERNMENT_GUARANTEED = 1,
+	BANK_BILL = 3,
+	DEPOSIT = 4,
+	TRADED = 6,
+	LOAN = 7,
+	REINSURANCE = 9,
+	ANY_OTHER = 11
+};
 enum { NO_ENTRY = 0, RETROCESSION = 3 };
 enum { CASH = 1 };
 
@@ -232,6 +240,10 @@ sentence(enum weightrose_refusal refusal)
 		return "An asset has more mitigants than a book of version 2 can count.";
 	case WEIGHTROSE_COST_RATE:
 		return "The cost rate is over a tenth.";
+	case WEIGHTROSE_QUESTIONS:
+		return "The dealers' list asks too much, or what cannot be asked.";
+	case WEIGHTROSE_ANSWERS_SHORT:
+		return "The buffer is too short for the answers.";
 	}
 	return "The answer is not one of this library's.";
 }
@@ -1046,6 +1058,240 @@ rates(void)
 	free(report.bytes);
 }
 
+/* ---- Questions of dealers ---- */
+
+/* A question, and the answer that is expected. */
+struct question {
+	uint16_t counterparty;
+	uint8_t kind;
+	uint64_t more;
+};
+
+/* The bytes of a list; the caller frees them. */
+static struct block
+new_list(const struct question *questions, size_t count)
+{
+	struct block list = new_block(WEIGHTROSE_QUESTION_SIZE * count);
+	unsigned i;
+
+	for (i = 0; i < count; i++)
+		weightrose_ask(list.bytes, i, questions[i].counterparty, questions[i].kind);
+	return list;
+}
+
+/* Asks with a buffer of that length and expects the refusal and an untouched buffer. */
+static void
+expect_not_answered(struct block book, struct block list, size_t room,
+		    enum weightrose_refusal refusal)
+{
+	struct block schedule = new_schedule();
+	struct block answers = new_block(room);
+	uint64_t answer;
+	size_t i;
+
+	memset(answers.bytes, 0xa5, answers.length);
+	answer = weightrose_headroom(schedule.bytes, schedule.length, book.bytes, book.length,
+				     list.bytes, list.length, answers.bytes, answers.length);
+	printf("not answered, %d at %" PRIu32 ": %s\n", (int)weightrose_refusal_of(answer),
+	       weightrose_place_of(answer), sentence(weightrose_refusal_of(answer)));
+	expect(weightrose_refusal_of(answer) == refusal, sentence(refusal));
+	expect(weightrose_place_of(answer) == 0, "C-16: a refusal's place");
+	for (i = 0; i < answers.length; i++)
+		expect(answers.bytes[i] == 0xa5, "a refusal changed the answers");
+	free(schedule.bytes);
+	free(answers.bytes);
+}
+
+/* Asks all questions at once and each by itself, prints the answers, and expects these. */
+static void
+expect_answers(struct block book, const struct question *questions, size_t count)
+{
+	struct block schedule = new_schedule();
+	struct block list = new_list(questions, count);
+	struct block answers = new_block(WEIGHTROSE_ANSWER_SIZE * count);
+	uint64_t answer = weightrose_headroom(schedule.bytes, schedule.length, book.bytes,
+					      book.length, list.bytes, list.length,
+					      answers.bytes, answers.length);
+	unsigned i;
+
+	printf("C-16: %s\n", weightrose_refusal_of(answer) == WEIGHTROSE_ACCEPTED ?
+	       "The dealers were answered." : sentence(weightrose_refusal_of(answer)));
+	if (weightrose_refusal_of(answer) != WEIGHTROSE_ACCEPTED)
+		exit(EXIT_FAILURE);
+	expect(weightrose_length_of(answer) == answers.length, "C-16: the answers' length");
+	for (i = 0; i < count; i++) {
+		uint64_t more = weightrose_answer(answers.bytes, i);
+		struct block one = new_list(&questions[i], 1);
+		struct block single = new_block(WEIGHTROSE_ANSWER_SIZE);
+
+		printf("  kind %u with %u: %" PRIu64 " more\n", (unsigned)questions[i].kind,
+		       (unsigned)questions[i].counterparty, more);
+		expect(more == questions[i].more, "C-16: an answer");
+		expect(weightrose_headroom(schedule.bytes, schedule.length, book.bytes, book.length,
+					   one.bytes, one.length, single.bytes, single.length) ==
+		       WEIGHTROSE_ANSWER_SIZE && weightrose_answer(single.bytes, 0) == more,
+		       "C-16: a question sent singly has another answer");
+		free(one.bytes);
+		free(single.bytes);
+	}
+	free(schedule.bytes);
+	free(list.bytes);
+	free(answers.bytes);
+}
+
+/* A name, its child, which is a bank, another bank, and the home government. The name's two assets
+ * leave 50,000,000 in tier i and 150,000,000 in tier h. */
+static struct ledger
+dealers_ledger(void)
+{
+	static const struct counterparty names[] = {
+		{ NO_PARENT, 0, UNGRADED, 0 },
+		{ 1, BANK, 1, 0 },
+		{ NO_PARENT, BANK, 1, 0 },
+		{ NO_PARENT, HOME_GOVERNMENT, 1, 0 },
+	};
+	static const struct asset assets[] = {
+		{ ANY_OTHER, 1, 200000000, 0, 0, NO_ENTRY, 0 },
+		{ TRADED, 1, 150000000, 0, 0, NO_ENTRY, 0 },
+	};
+
+	return ledger_of(names, COUNT(names), assets, COUNT(assets));
+}
+
+/*
+ * Dealers ask what more they may buy; the ledger buys as much and sees that the charge stays, then
+ * one cent more and sees that it rises. With T2's excesses nothing is left in its two tiers.
+ */
+static void
+dealers(void)
+{
+	static const struct question list[] = {
+		{ 1, ANY_OTHER, 50000000 },
+		{ 1, TRADED, 150000000 },
+		{ 2, LOAN, 150000000 },
+		{ 2, DEPOSIT, UINT64_C(4650000000) },
+		{ 3, DEPOSIT, UINT64_C(5000000000) },
+		{ 3, BANK_BILL, UINT64_C(2500000000) },
+		{ 4, GOVERNMENT_GUARANTEED, WEIGHTROSE_MOST_AMOUNT },
+		{ 1, ANY_OTHER, 50000000 },
+	};
+	static const struct question of_t2[] = {
+		{ 1, ANY_OTHER, 0 }, { 1, TRADED, 0 }, { 1, DEPOSIT, 0 },
+	};
+	struct asset bought[] = {
+		{ ANY_OTHER, 1, 200000000, 0, 0, NO_ENTRY, 0 },
+		{ TRADED, 1, 150000000, 0, 0, NO_ENTRY, 0 },
+		{ LOAN, 2, 150000000, 0, 0, NO_ENTRY, 0 },
+	};
+	struct ledger ledger = dealers_ledger();
+	struct ledger t2_books = t2_ledger();
+	struct block book = new_book(&ledger);
+
+	expect_answers(book, list, COUNT(list));
+	expect_answers(book, NULL, 0);
+	free(book.bytes);
+	expect_charge("C-16, before", &ledger, 0);
+	ledger.assets = bought;
+	ledger.asset_count = COUNT(bought);
+	expect_charge("C-16, as much bought", &ledger, 0);
+	bought[2].value++;
+	expect_charge("C-16, one cent more", &ledger, 1);
+
+	book = new_book(&t2_books);
+	expect_answers(book, of_t2, COUNT(of_t2));
+	free(book.bytes);
+}
+
+/* Lists that are turned back: bytes over, places and kinds out of range, too many questions; and
+ * buffers that are too short. */
+static void
+dealers_refused(void)
+{
+	static const struct question bad[] = {
+		{ 0, ANY_OTHER, 0 }, { 5, ANY_OTHER, 0 }, { UINT16_MAX, ANY_OTHER, 0 },
+		{ 1, 0, 0 }, { 1, REINSURANCE, 0 }, { 1, 12, 0 }, { 1, UINT8_MAX, 0 },
+	};
+	static const struct question good = { 4, ANY_OTHER, 0 };
+	static const size_t bad_lengths[] = { 1, 2, 4, 601, 602, 603 };
+	static struct question many[WEIGHTROSE_MOST_QUESTIONS + 1];
+	struct ledger ledger = dealers_ledger();
+	struct block book = new_book(&ledger);
+	struct block list;
+	size_t i;
+
+	for (i = 0; i < COUNT(bad); i++) {
+		list = new_list(&bad[i], 1);
+		expect_not_answered(book, list, WEIGHTROSE_ANSWER_SIZE, WEIGHTROSE_QUESTIONS);
+		expect_not_answered(book, list, 0, WEIGHTROSE_QUESTIONS);
+		free(list.bytes);
+	}
+	for (i = 0; i < COUNT(many); i++)
+		many[i] = good;
+	list = new_list(many, COUNT(many));
+	for (i = 0; i < COUNT(bad_lengths); i++) {
+		struct block cut = new_block(bad_lengths[i]);
+
+		memcpy(cut.bytes, list.bytes, cut.length);
+		expect_not_answered(book, cut, WEIGHTROSE_ANSWER_SIZE * COUNT(many),
+				    WEIGHTROSE_QUESTIONS);
+		free(cut.bytes);
+	}
+	free(list.bytes);
+
+	list = new_list(many, WEIGHTROSE_MOST_QUESTIONS);
+	expect_not_answered(book, list, WEIGHTROSE_MOST_ANSWERS_SIZE - 1, WEIGHTROSE_ANSWERS_SHORT);
+	free(list.bytes);
+	list = new_list(&good, 1);
+	expect_not_answered(book, list, WEIGHTROSE_ANSWER_SIZE - 1, WEIGHTROSE_ANSWERS_SHORT);
+	expect_not_answered(book, list, 0, WEIGHTROSE_ANSWERS_SHORT);
+	book.bytes[4] = 3;
+	expect_not_answered(book, list, 0, WEIGHTROSE_BOOK_VERSION);
+	free(list.bytes);
+	free(book.bytes);
+}
+
+/* As many questions as may be asked, into a longer buffer: the bytes behind the answers stay as
+ * they were. Empty blocks may have no address. */
+static void
+dealers_in_other_buffers(void)
+{
+	static struct question questions[WEIGHTROSE_MOST_QUESTIONS];
+	struct ledger ledger = dealers_ledger();
+	struct block schedule = new_schedule();
+	struct block book = new_book(&ledger);
+	struct block answers = new_block(WEIGHTROSE_MOST_ANSWERS_SIZE + 9);
+	struct block list;
+	uint64_t answer;
+	size_t i;
+
+	for (i = 0; i < COUNT(questions); i++) {
+		questions[i].counterparty = (uint16_t)(1 + i % 4);
+		questions[i].kind = TRADED;
+	}
+	list = new_list(questions, COUNT(questions));
+	memset(answers.bytes, 0xa5, answers.length);
+	answer = weightrose_headroom(schedule.bytes, schedule.length, book.bytes, book.length,
+				     list.bytes, list.length, answers.bytes, answers.length);
+	expect(answer == WEIGHTROSE_MOST_ANSWERS_SIZE, "C-16: the most questions");
+	for (i = 0; i < COUNT(questions); i++)
+		expect(weightrose_answer(answers.bytes, (unsigned)i) ==
+		       (i % 4 < 2 ? 150000000 : 500000000), "C-16: one of the most answers");
+	for (i = WEIGHTROSE_MOST_ANSWERS_SIZE; i < answers.length; i++)
+		expect(answers.bytes[i] == 0xa5, "C-16: a byte behind the answers");
+	expect(weightrose_headroom(schedule.bytes, schedule.length, book.bytes, book.length,
+				   NULL, 0, NULL, 0) == 0, "C-16: no question and no buffer");
+	expect(weightrose_refusal_of(weightrose_headroom(schedule.bytes, schedule.length, book.bytes,
+							 book.length, list.bytes, list.length,
+							 NULL, 0)) == WEIGHTROSE_ANSWERS_SHORT,
+	       "C-16: no buffer at all");
+	expect(weightrose_refusal_of(weightrose_headroom(NULL, 0, NULL, 0, NULL, 0, NULL, 0)) ==
+	       WEIGHTROSE_SCHEDULE_LENGTH, "C-16: nothing at all");
+	free(schedule.bytes);
+	free(book.bytes);
+	free(answers.bytes);
+	free(list.bytes);
+}
+
 static void
 published_into_too_little(void)
 {
@@ -1076,6 +1322,9 @@ main(void)
 	bills_rounded();
 	bills_in_other_buffers();
 	rates();
+	dealers();
+	dealers_refused();
+	dealers_in_other_buffers();
 	published_into_too_little();
 	printf("ledger: %d failures\n", failures);
 	return failures ? EXIT_FAILURE : EXIT_SUCCESS;

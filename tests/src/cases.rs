@@ -1,8 +1,8 @@
-//! What the documents' cases ask of the library: a report by its fields, bills by desk, or a
-//! refusal.
+//! What the documents' cases ask of the library: a report by its fields, bills by desk, answers by
+//! question, or a refusal.
 
-use crate::raw::RawBook;
-use crate::weightrose::{self, Answer, Refusal, BILLS, HEADER, LARGEST_REPORT, LINE};
+use crate::raw::{RawBook, RawQuestion};
+use crate::weightrose::{self, Answer, Refusal, ANSWER, BILLS, HEADER, LARGEST_REPORT, LINE};
 
 pub struct Report {
     pub bytes: Vec<u8>,
@@ -123,6 +123,34 @@ pub fn not_billed(schedule: &[u8], book: &[u8], rate: u64, room: usize) -> Refus
     let mut buffer = vec![0xa5; room];
     let answer = weightrose::bills(schedule, book, rate, &mut buffer);
     assert!(buffer.iter().all(|&byte| byte == 0xa5), "a refusal changed the bills");
+    match answer {
+        Answer::Refused(refusal) => refusal,
+        Answer::Written(length) => panic!("{length} bytes were written"),
+    }
+}
+
+/// How much more may be bought of what each question names, for a book that is accepted, under a
+/// schedule.
+pub fn answers_under(schedule: &[u8], book: &RawBook, questions: &[RawQuestion]) -> Vec<u64> {
+    let mut buffer = vec![0xa5; ANSWER * questions.len()];
+    let list = RawQuestion::list(questions);
+    match weightrose::headroom(schedule, &book.bytes(), &list, &mut buffer) {
+        Answer::Written(length) => assert_eq!(length, buffer.len()),
+        Answer::Refused(refusal) => panic!("{refusal:?}"),
+    }
+    (0..questions.len()).map(|question| weightrose::amount(&buffer, question)).collect()
+}
+
+/// The same under the published schedule.
+pub fn answers(book: &RawBook, questions: &[RawQuestion]) -> Vec<u64> {
+    answers_under(&weightrose::published(), book, questions)
+}
+
+/// The refusal of a list with a buffer of that length, which must stay as it was.
+pub fn not_answered(schedule: &[u8], book: &[u8], questions: &[u8], room: usize) -> Refusal {
+    let mut buffer = vec![0xa5; room];
+    let answer = weightrose::headroom(schedule, book, questions, &mut buffer);
+    assert!(buffer.iter().all(|&byte| byte == 0xa5), "a refusal changed the answers");
     match answer {
         Answer::Refused(refusal) => refusal,
         Answer::Written(length) => panic!("{length} bytes were written"),

@@ -1,10 +1,12 @@
-//! One comparison: two subjects answer the same schedule and book, with or without a cost rate, each
-//! with a buffer of its own between guard bytes, and must agree on the answer and on every byte.
+//! One comparison: two subjects answer the same schedule and book, by themselves or with a cost rate
+//! or a list of questions, each with a buffer of its own between guard bytes, and must agree on the
+//! answer and on every byte.
 
-use crate::inputs::{Billing, Input, Room};
+use crate::inputs::{Asking, Billing, Input, Room};
 use crate::random::Random;
+use crate::raw::{RawAsset, RawQuestion, MOST};
 use crate::second;
-use crate::weightrose::{self, Answer, LARGEST_REPORT};
+use crate::weightrose::{self, Answer, ANSWER, LARGEST_REPORT, QUESTION};
 
 /// Guard bytes on each side of a lent buffer.
 pub const GUARD: usize = 64;
@@ -125,22 +127,118 @@ pub fn compare_bills(one: Biller, other: Biller, billing: &Billing) -> Result<Ou
     )
 }
 
+/// The charge of the library's report.
+fn charge(schedule: &[u8], book: &[u8]) -> Result<u64, String> {
+    let mut report = vec![0; LARGEST_REPORT];
+    match weightrose::report(schedule, book, &mut report) {
+        Answer::Written(_) => Ok(u64::from_le_bytes(report[64..72].try_into().unwrap())),
+        Answer::Refused(refusal) => Err(format!("the report is refused {}", refusal.number())),
+    }
+}
+
 /// What bills must do, as the library has it: add up to the charge of the report times the rate,
 /// rounded down.
 pub fn adds_up(billing: &Billing, bills: &[u8]) -> Result<(), String> {
     let Billing { input, rate } = billing;
-    let mut report = vec![0; LARGEST_REPORT];
-    if let Answer::Refused(refusal) = weightrose::report(&input.schedule, &input.book, &mut report)
-    {
-        return Err(format!("billed, and the report is refused {}", refusal.number()));
-    }
-    let charge = u64::from_le_bytes(report[64..72].try_into().unwrap());
+    let charge = charge(&input.schedule, &input.book).map_err(|what| format!("billed, {what}"))?;
     let wanted = u128::from(charge) * u128::from(*rate) / 10_000;
     let sum: u128 = (0..=255).map(|desk| u128::from(weightrose::bill(bills, desk))).sum();
     if sum != wanted {
         return Err(format!("the bills add up to {sum}, a charge of {charge} costs {wanted}"));
     }
     Ok(())
+}
+
+/// Answers a schedule, a book and a list of questions as the library does, packed.
+pub type Answerer<'a> = &'a dyn Fn(&[u8], &[u8], &[u8], &mut Lent) -> u64;
+
+/// Both answerers on one input: what both left, or where they part.
+pub fn compare_headroom(
+    one: Answerer,
+    other: Answerer,
+    asking: &Asking,
+) -> Result<Outcome, Difference> {
+    let Asking { input, questions } = asking;
+    compare(
+        &|schedule, book, lent| one(schedule, book, questions, lent),
+        &|schedule, book, lent| other(schedule, book, questions, lent),
+        input,
+    )
+}
+
+/// "each answer equals what the question gets when sent singly", as the library has it.
+pub fn as_singly(asking: &Asking, answers: &[u8]) -> Result<(), String> {
+    let Asking { input, questions } = asking;
+    for (question, wanted) in questions.chunks(QUESTION).zip(answers.chunks(ANSWER)) {
+        let mut answer = [0xa5; ANSWER];
+        let packed =
+            weightrose::packed_headroom(&input.schedule, &input.book, question, &mut answer);
+        if packed != ANSWER as u64 || answer != wanted {
+            return Err(format!("{question:?} gets another answer when sent singly"));
+        }
+    }
+    Ok(())
+}
+
+/// A book's bytes with one more asset of this kind, with this counterparty; the header's amounts
+/// stay, and with them VAF and VAF′. None where the book has no place for it.
+pub fn bought(book: &[u8], question: RawQuestion, value: u64) -> Option<Vec<u8>> {
+    let [counterparties, assets] =
+        [6, 8].map(|place| u16::from_le_bytes([book[place], book[place + 1]]));
+    if assets == 900 {
+        return None;
+    }
+    let RawQuestion { counterparty, kind } = question;
+    let asset = RawAsset { kind, counterparty, value, ..Default::default() };
+    let end = 40 + 4 * usize::from(counterparties) + 48 * usize::from(assets);
+    let mut bytes = [&book[..end], &asset.bytes(), &book[end..]].concat();
+    bytes[8..10].copy_from_slice(&(assets + 1).to_le_bytes());
+    Some(bytes)
+}
+
+/// What the answers say, as the library's reports have it: with so much bought the charge is the
+/// same, and with one cent more it is greater or the answer is M. About twenty questions of a list
+/// are tried. Bank bills move W and so a limit that is held here, where row d has a first rate: of
+/// these, as of books that are full, nothing is tried. Answers how many were.
+pub fn may_be_bought(asking: &Asking, answers: &[u8]) -> Result<usize, String> {
+    let Asking { input: Input { schedule, book, .. }, questions } = asking;
+    let lessened_by_w = schedule[24..26] != [0, 0];
+    let mut tried = 0;
+    let before = charge(schedule, book)?;
+    let all = questions.chunks(QUESTION).zip(answers.chunks(ANSWER));
+    for (question, answer) in all.step_by(1 + questions.len() / (20 * QUESTION)) {
+        let question = RawQuestion {
+            counterparty: u16::from_le_bytes([question[0], question[1]]),
+            kind: question[2],
+        };
+        let answer = weightrose::amount(answer, 0);
+        let with = |value| bought(book, question, value).filter(|_| value <= MOST);
+        if lessened_by_w && question.kind == 3 {
+            continue;
+        }
+        let Some(book) = with(answer) else {
+            continue;
+        };
+        if charge(schedule, &book)? != before {
+            return Err(format!("{question:?}: {answer} more raises the charge"));
+        }
+        if let Some(book) = with(answer + 1) {
+            if charge(schedule, &book)? <= before {
+                return Err(format!("{question:?}: {answer} more is not the greatest"));
+            }
+        }
+        tried += 1;
+    }
+    Ok(tried)
+}
+
+/// The answerers.
+pub fn library_headroom(schedule: &[u8], book: &[u8], questions: &[u8], lent: &mut Lent) -> u64 {
+    weightrose::packed_headroom(schedule, book, questions, lent.buffer())
+}
+
+pub fn second_headroom(schedule: &[u8], book: &[u8], questions: &[u8], lent: &mut Lent) -> u64 {
+    second::headroom(schedule, book, questions, lent.buffer()).packed()
 }
 
 /// The billers.

@@ -1,5 +1,5 @@
-//! Schedules and books by their fields, right or wrong, and their bytes as the documents lay them
-//! out. Nothing here knows which fields are accepted.
+//! Schedules, books and questions by their fields, right or wrong, and their bytes as the documents
+//! lay them out. Nothing here knows which fields are accepted.
 
 /// Document 01's M, in cents.
 pub const MOST: u64 = 10_000_000_000_000;
@@ -69,6 +69,13 @@ pub struct RawMitigant {
     pub flags: u8,
     pub counterparty: u16,
     pub value: u64,
+}
+
+/// What a dealer asks: how much more of this kind with this counterparty (C-16).
+#[derive(Clone, Copy, Debug, Default, PartialEq, Eq)]
+pub struct RawQuestion {
+    pub counterparty: u16,
+    pub kind: u8,
 }
 
 impl RawSchedule {
@@ -163,6 +170,13 @@ impl RawCounterparty {
 }
 
 impl RawAsset {
+    /// Its record, the same in both versions where it has no mitigants and no desk.
+    pub fn bytes(&self) -> Vec<u8> {
+        let mut bytes = Vec::new();
+        self.put(1, &mut bytes);
+        bytes
+    }
+
     fn put(&self, version: u16, bytes: &mut Vec<u8>) {
         bytes.extend([self.kind, self.flags, self.entry, self.months]);
         put_u16(bytes, &[self.counterparty]);
@@ -180,6 +194,18 @@ impl RawMitigant {
         bytes.extend([self.form, self.flags]);
         put_u16(bytes, &[self.counterparty]);
         put_u64(bytes, &[self.value]);
+    }
+}
+
+impl RawQuestion {
+    /// The bytes of a list.
+    pub fn list(questions: &[RawQuestion]) -> Vec<u8> {
+        let mut bytes = Vec::new();
+        for question in questions {
+            put_u16(&mut bytes, &[question.counterparty]);
+            bytes.push(question.kind);
+        }
+        bytes
     }
 }
 

@@ -1,4 +1,4 @@
-//! The library's four exported functions behind safe ones.
+//! The library's five exported functions behind safe ones.
 
 /// Bytes of a schedule.
 pub const SCHEDULE: usize = 122;
@@ -19,6 +19,10 @@ pub const DESKS: usize = 256;
 pub const BILLS: usize = 8 * DESKS;
 /// The most that a cost rate may be, in ten-thousandths.
 pub const MOST_COST_RATE: u64 = 1_000;
+/// Bytes of a dealer's question and of its answer, and the most questions of a list.
+pub const QUESTION: usize = 3;
+pub const ANSWER: usize = 8;
+pub const MOST_QUESTIONS: usize = 200;
 
 mod exported {
     extern "C" {
@@ -45,6 +49,16 @@ mod exported {
             bills: *mut u8,
             bills_len: usize,
         ) -> u64;
+        pub fn weightrose_headroom(
+            schedule: *const u8,
+            schedule_len: usize,
+            book: *const u8,
+            book_len: usize,
+            questions: *const u8,
+            questions_len: usize,
+            answers: *mut u8,
+            answers_len: usize,
+        ) -> u64;
         pub fn weightrose_published(schedule: *mut u8, schedule_len: usize) -> u64;
     }
 }
@@ -56,9 +70,10 @@ pub enum Answer {
     Refused(Refusal),
 }
 
-/// The refusals by name, 1 to 19 in this order; 10 to 12 with the bad record's place, 17 and 18 with
+/// The refusals by name, 1 to 21 in this order; 10 to 12 with the bad record's place, 17 and 18 with
 /// the asset's. A report is checked for 1 to 13, then 17, then 14 to 16; a conversion for 5 to 13,
-/// then 17, 14, 15, 18 and 16; bills for 1 to 13, then 17, 14, 15, 19 and 16.
+/// then 17, 14, 15, 18 and 16; bills for 1 to 13, then 17, 14, 15, 19 and 16; a list of questions
+/// for 1 to 13, then 17, 14, 15, 20 and 21.
 #[derive(Clone, Copy, Debug, PartialEq, Eq)]
 pub enum Refusal {
     ScheduleLength,
@@ -80,6 +95,8 @@ pub enum Refusal {
     SpecialistEntry(u16),
     ManyMitigants(u16),
     CostRate,
+    Questions,
+    AnswersShort,
 }
 
 impl Refusal {
@@ -105,6 +122,8 @@ impl Refusal {
             Refusal::SpecialistEntry(_) => 17,
             Refusal::ManyMitigants(_) => 18,
             Refusal::CostRate => 19,
+            Refusal::Questions => 20,
+            Refusal::AnswersShort => 21,
         }
     }
 
@@ -159,6 +178,8 @@ impl Answer {
             17 => Refusal::SpecialistEntry(low as u16),
             18 => Refusal::ManyMitigants(low as u16),
             19 => Refusal::CostRate,
+            20 => Refusal::Questions,
+            21 => Refusal::AnswersShort,
             _ => return None,
         };
         Some(Answer::Refused(refusal)).filter(|answer| answer.packed() == packed)
@@ -208,6 +229,25 @@ pub fn packed_bills(schedule: &[u8], book: &[u8], rate: u64, buffer: &mut [u8]) 
     }
 }
 
+/// The library's answer to a list of questions as it stands. After answers, the buffer starts with
+/// them.
+pub fn packed_headroom(schedule: &[u8], book: &[u8], questions: &[u8], buffer: &mut [u8]) -> u64 {
+    // SAFETY: each pointer is that of a slice and stands beside the slice's length, and the
+    // buffer, being lent as `&mut`, is apart from the other three.
+    unsafe {
+        exported::weightrose_headroom(
+            schedule.as_ptr(),
+            schedule.len(),
+            book.as_ptr(),
+            book.len(),
+            questions.as_ptr(),
+            questions.len(),
+            buffer.as_mut_ptr(),
+            buffer.len(),
+        )
+    }
+}
+
 fn unpacked(packed: u64) -> Answer {
     Answer::unpacked(packed).unwrap_or_else(|| panic!("no answer packs to {packed:#018x}"))
 }
@@ -234,6 +274,19 @@ pub fn bills(schedule: &[u8], book: &[u8], rate: u64, buffer: &mut [u8]) -> Answ
 pub fn bill(bills: &[u8], desk: u8) -> u64 {
     let start = 8 * usize::from(desk);
     u64::from_le_bytes(bills[start..start + 8].try_into().unwrap())
+}
+
+/// Writes how much more may be bought of what each question names, eight bytes each, to the front of
+/// the buffer and answers their length, or refuses and leaves the buffer as it is. A question is
+/// three bytes: a counterparty's place and an asset kind.
+pub fn headroom(schedule: &[u8], book: &[u8], questions: &[u8], buffer: &mut [u8]) -> Answer {
+    unpacked(packed_headroom(schedule, book, questions, buffer))
+}
+
+/// The amount that answers the question of that number, from 0.
+pub fn amount(answers: &[u8], question: usize) -> u64 {
+    let start = ANSWER * question;
+    u64::from_le_bytes(answers[start..start + ANSWER].try_into().unwrap())
 }
 
 /// The published schedule, for a slice that may be too short: 122, or 0 and nothing is written.

@@ -1,5 +1,6 @@
 //! Another static library with the report's signature, under the name `peer_report`: the yardstick
-//! of the benchmark, or another build of the library. Here only where the build was given one.
+//! of the benchmark, or another build of the library. Here only where the build was given one, and
+//! its `peer_headroom` only where it has one.
 
 extern "C" {
     fn peer_report(
@@ -25,3 +26,38 @@ pub fn report(schedule: &[u8], book: &[u8], buffer: &mut [u8]) -> u64 {
         )
     }
 }
+
+#[cfg(yardstick_headroom)]
+mod of_questions {
+    extern "C" {
+        fn peer_headroom(
+            schedule: *const u8,
+            schedule_len: usize,
+            book: *const u8,
+            book_len: usize,
+            questions: *const u8,
+            questions_len: usize,
+            answers: *mut u8,
+            answers_len: usize,
+        ) -> u64;
+    }
+
+    pub fn headroom(schedule: &[u8], book: &[u8], questions: &[u8], buffer: &mut [u8]) -> u64 {
+        // SAFETY: each pointer is that of a slice and stands beside the slice's length.
+        unsafe {
+            peer_headroom(
+                schedule.as_ptr(),
+                schedule.len(),
+                book.as_ptr(),
+                book.len(),
+                questions.as_ptr(),
+                questions.len(),
+                buffer.as_mut_ptr(),
+                buffer.len(),
+            )
+        }
+    }
+}
+
+#[cfg(yardstick_headroom)]
+pub use of_questions::headroom;

@@ -3,16 +3,18 @@
 
 use std::thread;
 use weightrose_tests::compare::{
-    compare, compare_bills, library, library_bills, library_convert, second, second_bills,
-    second_convert,
+    compare, compare_bills, compare_headroom, library, library_bills, library_convert,
+    library_headroom, second, second_bills, second_convert, second_headroom,
 };
 use weightrose_tests::inputs::{
-    at_desks, largest_report_book, largest_specialist_book, lifelike, sixteen_tiers, Billings,
-    Conversions, Inputs, Parents, Shape,
+    at_desks, largest_report_book, largest_specialist_book, lifelike, sixteen_tiers, Askings,
+    Billings, Conversions, Inputs, Parents, Shape, KINDS,
 };
 use weightrose_tests::random::Random;
+use weightrose_tests::raw::RawQuestion;
 use weightrose_tests::weightrose::{
-    packed_bills, packed_convert, packed_report, published, BILLS, LARGEST_REPORT,
+    packed_bills, packed_convert, packed_headroom, packed_report, published, ANSWER, BILLS,
+    LARGEST_REPORT, MOST_QUESTIONS,
 };
 
 /// The stack that `weightrose.h` names, and some for the thread's own frames.
@@ -24,11 +26,13 @@ fn threads_at_once() {
     let inputs = Inputs::new(23);
     let seeded =
         |share: usize| inputs.fixed() + share * 2_000..inputs.fixed() + (share + 1) * 2_000;
-    let (conversions, billings) = (Conversions::new(23), Billings::new(23));
+    let (conversions, billings, askings) =
+        (Conversions::new(23), Billings::new(23), Askings::new(23));
     let agrees = |number: usize| {
         compare(&library, &second, &inputs.get(number)).is_ok()
             && compare(&library_convert, &second_convert, &conversions.get(number)).is_ok()
             && compare_bills(&library_bills, &second_bills, &billings.get(number)).is_ok()
+            && compare_headroom(&library_headroom, &second_headroom, &askings.get(number)).is_ok()
     };
     thread::scope(|scope| {
         for share in 0..4 {
@@ -50,10 +54,19 @@ fn a_small_stack() {
         at_desks(&mut Random::new(117, 0), &mut raw);
         let billed = raw.bytes();
         let mut buffer = vec![0; LARGEST_REPORT];
+        let last = raw.counterparties.len();
+        let question = |number: usize| RawQuestion {
+            counterparty: (last - number % last) as u16,
+            kind: KINDS[number % KINDS.len()],
+        };
+        let list: Vec<RawQuestion> = (0..MOST_QUESTIONS).map(question).collect();
+        let list = RawQuestion::list(&list);
         let call = move || {
             assert_eq!(packed_convert(&book, &mut buffer), book.len() as u64);
             for book in [&book, &billed] {
                 assert_eq!(packed_bills(&published(), book, 1_000, &mut buffer), BILLS as u64);
+                let answers = packed_headroom(&published(), book, &list, &mut buffer);
+                assert_eq!(answers, (ANSWER * MOST_QUESTIONS) as u64);
             }
             packed_report(&published(), &book, &mut buffer)
         };

@@ -1,20 +1,26 @@
 //! Document 02's requests through the library, with their figures and both sides of each of their
 //! boundaries: C-11, specialist reinsurers; C-12, lines straight into the lent report; C-13, desks
-//! and the converter; C-14, the bills; C-15, rates in ten-thousandths.
+//! and the converter; C-14, the bills; C-15, rates in ten-thousandths; C-16, how much more may be
+//! bought.
 
 use weightrose_tests::cases::{
-    bills, bills_under, not_billed, refusal, refused_book, report, report_under, Report,
+    answers, answers_under, bills, bills_under, not_answered, not_billed, refusal, refused_book,
+    report, report_under, Report,
 };
-use weightrose_tests::compare::{library, library_bills, outcome, room, Subject};
+use weightrose_tests::compare::{
+    bought, library, library_bills, library_headroom, outcome, room, Subject,
+};
 use weightrose_tests::inputs::{
-    largest_report_book, largest_specialist_book, sample, sixteen_tiers, Billing, Billings, Input,
-    Inputs,
+    largest_report_book, largest_specialist_book, sample, sixteen_tiers, small_fund, Asking,
+    Askings, Billing, Billings, Input, Inputs, KINDS,
 };
+use weightrose_tests::random::Random;
 use weightrose_tests::raw::*;
-use weightrose_tests::second::rebuilt;
+use weightrose_tests::second::{rebuilt, tried};
 use weightrose_tests::weightrose::{
-    bill, convert, packed_bills, packed_report, published, Answer, Refusal, BILLS, LARGEST_BOOK,
-    LARGEST_REPORT, LINE, MOST_COST_RATE, MOST_RATE_PER_MILLE, MOST_RATE_TEN_THOUSANDTHS, SCHEDULE,
+    amount, bill, convert, headroom, packed_bills, packed_headroom, packed_report, published,
+    Answer, Refusal, ANSWER, BILLS, LARGEST_BOOK, LARGEST_REPORT, LINE, MOST_COST_RATE,
+    MOST_QUESTIONS, MOST_RATE_PER_MILLE, MOST_RATE_TEN_THOUSANDTHS, QUESTION, SCHEDULE,
     SCHEDULE_PER_MILLE, SCHEDULE_TEN_THOUSANDTHS,
 };
 
@@ -1033,7 +1039,7 @@ fn written_tenfold(subject: Subject, input: &Input) -> bool {
 }
 
 /// "A version 1 rate counts ten times": ten times the rates in version 2 get the same answer and
-/// the same bytes, whatever the book, the buffer and the cost rate.
+/// the same bytes, whatever the book, the buffer, the cost rate and the questions.
 #[test]
 fn c15_ten_times_the_rates() {
     let inputs = Inputs::new(15);
@@ -1047,6 +1053,15 @@ fn c15_ten_times_the_rates() {
         written_tenfold(&|schedule, book, lent| library_bills(schedule, book, rate, lent), &input)
     });
     assert!(bills.count() > 1_000);
+    let askings = Askings::new(15);
+    let seeded = askings.fixed()..askings.fixed() + 8_000;
+    let answered = seeded.filter(|&number| {
+        let Asking { input, questions } = askings.get(number);
+        let subject: Subject =
+            &|schedule, book, lent| library_headroom(schedule, book, &questions, lent);
+        written_tenfold(subject, &input)
+    });
+    assert!(answered.count() > 1_000);
     for book in [sample(), largest_report_book(), largest_specialist_book(), every_tier(MOST)] {
         let wanted = report(&book).bytes;
         assert_eq!(report_under(&in_ten_thousandths().bytes(), &book).bytes, wanted);
@@ -1073,7 +1088,7 @@ fn c15_the_version_decides() {
     );
 }
 
-/// The refusal of a schedule, by a report and by bills; none where both accept it.
+/// The refusal of a schedule, by a report, by bills and by answers; none where all accept it.
 fn refused_schedule(schedule: &RawSchedule) -> Option<Refusal> {
     let (schedule, book) = (schedule.bytes(), sample().bytes());
     let answer = packed_report(&schedule, &book, &mut [0; LARGEST_REPORT]);
@@ -1083,6 +1098,8 @@ fn refused_schedule(schedule: &RawSchedule) -> Option<Refusal> {
     };
     let of_bills = not_billed(&schedule, &book, 1_001, 0);
     assert_eq!(of_bills, refusal.unwrap_or(Refusal::CostRate));
+    let of_answers = not_answered(&schedule, &book, &[0], 0);
+    assert_eq!(of_answers, refusal.unwrap_or(Refusal::Questions));
     refusal
 }
 
@@ -1269,4 +1286,524 @@ fn c15_bills() {
 fn c15_the_published_schedule() {
     assert_eq!(published()[4..6], SCHEDULE_PER_MILLE.to_le_bytes());
     assert_eq!(tenfold(&published()), Some(in_ten_thousandths().bytes()));
+}
+
+fn ask(counterparty: u16, kind: u8) -> RawQuestion {
+    RawQuestion { counterparty, kind }
+}
+
+/// Each kind that may be asked about, with each counterparty of a book.
+fn ask_all(book: &RawBook) -> Vec<RawQuestion> {
+    let places = 1..=book.counterparties.len() as u16;
+    places.flat_map(|place| KINDS.map(|kind| ask(place, kind))).collect()
+}
+
+/// Fixed amounts for rows c, d, f, h and i, and nothing else.
+fn fixed_limits([c, d, f, h, i]: [u64; 5]) -> Vec<u8> {
+    let mut schedule = plain(1, [0; 3], 0);
+    for (row, fixed) in [(0, c), (1, d), (3, f), (5, h), (6, i)] {
+        schedule.rows[row].fixed = fixed;
+    }
+    schedule.bytes()
+}
+
+/// A bank and its child, an ungraded name, with these kinds and values of the bank.
+fn of_a_bank(assets: &[(u8, u64)]) -> RawBook {
+    let mut book = RawBook::empty(TOTAL, BASE, 0);
+    book.counterparty(bank());
+    book.counterparty(RawCounterparty { parent: 1, ..Default::default() });
+    assets.iter().for_each(|&(kind, value)| book.asset(held(0, kind, 1, value), &[]));
+    book
+}
+
+/// T2's name has 250,000,000 standing in tier i, which is full, and 250,000,000 in tier h, which is
+/// full with it. Of a bank instead, deposits go up to 5,000,000,000.
+#[test]
+fn c16_the_group_of_t2() {
+    let t2 = t2_at_desks();
+    assert_eq!(answers(&t2, &[ask(1, 11), ask(1, 6), ask(1, 4)]), [0, 0, 0]);
+    // Ungraded, kind 4 is in tier i. Of a graded one it is in h, of a bank in d.
+    let mut graded_name = t2.clone();
+    graded_name.counterparties[0] = graded();
+    assert_eq!(answers(&graded_name, &[ask(1, 4)]), [0]);
+    let mut of_bank = t2;
+    of_bank.counterparties[0] = bank();
+    let questions = [ask(1, 11), ask(1, 6), ask(1, 4), ask(1, 3), ask(1, 1)];
+    let wanted = [0, 0, 4_500_000_000, 2_000_000_000, 0];
+    assert_eq!(report(&of_bank).charge(), 100_000_000);
+    assert_eq!(answers(&of_bank, &questions), wanted);
+}
+
+/// T3: up to the limit of 250,000,000, then nothing.
+#[test]
+fn c16_up_to_the_limit() {
+    for (value, room) in [
+        (0, 250_000_000),
+        (1, 249_999_999),
+        (249_999_999, 1),
+        (250_000_000, 0),
+        (250_000_001, 0),
+        (MOST, 0),
+    ] {
+        assert_eq!(answers(&of_one_name(&[(0, value)]), &[ask(1, 11)]), [room]);
+    }
+}
+
+/// Tiers i, h and c at 100, 200 and 300: what stands below counts above, and a tier that is full
+/// leaves nothing below it.
+#[test]
+fn c16_tiers_above_and_below() {
+    let schedule = fixed_limits([300, 900, 0, 200, 100]);
+    let answered = |i, h, c| {
+        let book = of_a_bank(&[(11, i), (6, h), (3, c)]);
+        answers_under(&schedule, &book, &[ask(1, 11), ask(1, 6), ask(1, 3)])
+    };
+    assert_eq!(answered(0, 0, 0), [100, 200, 300]);
+    assert_eq!(answered(40, 0, 0), [60, 160, 260]);
+    assert_eq!(answered(40, 100, 0), [60, 60, 160]);
+    assert_eq!(answered(0, 0, 250), [50, 50, 50]);
+    assert_eq!(answered(0, 150, 0), [50, 50, 150]);
+    // A cent under, at and over a limit of a higher tier.
+    assert_eq!(answered(40, 159, 0), [1, 1, 101]);
+    assert_eq!(answered(40, 160, 0), [0, 0, 100]);
+    assert_eq!(answered(40, 161, 0), [0, 0, 100]);
+    // Tiers i and h have room, and c is full.
+    assert_eq!(answered(40, 10, 250), [0, 0, 0]);
+    assert_eq!(answered(40, 10, 249), [1, 1, 1]);
+    // An excess is cut, and does not stand: 100 of the 170 in i, and 100 of the 170 in h.
+    assert_eq!(answered(170, 0, 0), [0, 100, 200]);
+    assert_eq!(answered(170, 170, 0), [0, 0, 100]);
+    assert_eq!(answered(170, 30, 60), [0, 70, 110]);
+}
+
+/// A tier that the group has not yet, below, between and above those that it has.
+#[test]
+fn c16_a_tier_that_the_group_has_not() {
+    let book = of_a_bank(&[(11, 40), (4, 500)]);
+    // Rank i, h, c, d: what is bought between counts in d too.
+    let between = [ask(1, 6), ask(1, 3)];
+    assert_eq!(answers_under(&fixed_limits([300, 900, 0, 200, 100]), &book, &between), [160, 260]);
+    assert_eq!(answers_under(&fixed_limits([300, 700, 0, 200, 100]), &book, &between), [160, 160]);
+    assert_eq!(answers_under(&fixed_limits([300, 540, 0, 200, 100]), &book, &between), [0, 0]);
+    // c above d: only its own limit counts.
+    let above = fixed_limits([950, 540, 0, 200, 100]);
+    assert_eq!(answers_under(&above, &book, &between), [0, 410]);
+    // h below i.
+    let below = fixed_limits([300, 900, 0, 50, 100]);
+    assert_eq!(answers_under(&below, &book, &between), [50, 260]);
+    assert_eq!(answers_under(&fixed_limits([300, 900, 0, 50, 60]), &book, &between), [20, 260]);
+    // A group that has none at all, and one without records.
+    let none = of_a_bank(&[]);
+    assert_eq!(answers_under(&below, &none, &between), [50, 300]);
+    assert_eq!(answers_under(&below, &of_a_bank(&[(11, 0)]), &between), [50, 300]);
+}
+
+/// Equal limits: whichever tier is asked about, all that stands in them counts.
+#[test]
+fn c16_equal_limits() {
+    let questions = [ask(1, 11), ask(1, 6), ask(1, 3), ask(1, 4)];
+    for (assets, room) in [
+        (vec![], 100),
+        (vec![(11, 40)], 60),
+        (vec![(6, 40)], 60),
+        (vec![(4, 40)], 60),
+        (vec![(11, 30), (4, 30)], 40),
+        (vec![(11, 30), (6, 30), (4, 39)], 1),
+        (vec![(11, 30), (6, 30), (4, 40)], 0),
+        (vec![(11, 30), (6, 30), (4, 41)], 0),
+    ] {
+        let schedule = fixed_limits([100, 100, 100, 100, 100]);
+        assert_eq!(answers_under(&schedule, &of_a_bank(&assets), &questions), [room; 4]);
+    }
+    // One cent beside: h at 101 has one cent more, for itself and for nothing below it.
+    let book = of_a_bank(&[(11, 30), (4, 30)]);
+    let beside = fixed_limits([100, 100, 0, 101, 100]);
+    assert_eq!(answers_under(&beside, &book, &questions), [40, 41, 40, 40]);
+}
+
+/// "A kind without limit answers M", whatever the charge; of counterparties that fail its condition
+/// the kind has a limit.
+#[test]
+fn c16_a_kind_without_limit() {
+    let mut book = RawBook::empty(TOTAL, BASE, 0);
+    let home = book.counterparty(RawCounterparty { kind: 2, ..Default::default() });
+    let related = book.counterparty(RawCounterparty { kind: 4, flags: 1, ..graded() });
+    let life = book.counterparty(RawCounterparty { kind: 4, ..graded() });
+    let province = book.counterparty(RawCounterparty { kind: 3, ..Default::default() });
+    let without = [ask(home, 1), ask(related, 2)];
+    let limited = [ask(home, 2), ask(related, 1), ask(life, 2), ask(province, 1)];
+    let (h, i) = (500_000_000, 250_000_000);
+    assert_eq!(answers(&book, &without), [MOST, MOST]);
+    assert_eq!(answers(&book, &limited), [i, h, h, i]);
+    for counterparty in 1..=4 {
+        book.asset(held(0, 11, counterparty, MOST), &[]);
+    }
+    book.asset(held(0, 1, home, MOST), &[]);
+    assert_eq!(answers(&book, &without), [MOST, MOST]);
+    assert_eq!(answers(&book, &limited), [0, h - i, h - i, 0]);
+}
+
+/// "the greatest amount up to M": limits of M and of one and a half M.
+#[test]
+fn c16_up_to_m() {
+    let half = MOST / 2;
+    for (rate, value, room) in [
+        (1_000, 0, MOST),
+        (1_000, 1, MOST - 1),
+        (1_500, 0, MOST),
+        (1_500, half - 1, MOST),
+        (1_500, half, MOST),
+        (1_500, half + 1, MOST - 1),
+        (1_500, MOST, half),
+    ] {
+        let mut book = RawBook::empty(MOST, 0, 0);
+        book.counterparty(RawCounterparty::default());
+        book.asset(held(0, 11, 1, value), &[]);
+        for schedule in [plain(1, [rate, 0, 0], 0), plain(2, [10 * rate, 0, 0], 0)] {
+            let schedule = schedule.bytes();
+            assert_eq!(answers_under(&schedule, &book, &[ask(1, 11), ask(1, 6)]), [room, room]);
+        }
+    }
+}
+
+/// "that group's tier": the tier by the counterparty that is asked about, the group by its topmost
+/// parent, wherever in the group it stands.
+#[test]
+fn c16_a_counterparty_that_is_no_top() {
+    let mut book = RawBook::empty(TOTAL, BASE, 0);
+    let name = RawCounterparty::default();
+    book.counterparty(name);
+    book.counterparty(RawCounterparty { parent: 1, ..bank() });
+    book.counterparty(RawCounterparty { parent: 2, ..name });
+    book.counterparty(name);
+    book.asset(held(0, 11, 1, 100_000_000), &[]);
+    book.asset(held(0, 4, 2, 20_000_000), &[]);
+    let of_tier_i: Vec<RawQuestion> = (1..=4).map(|place| ask(place, 11)).collect();
+    let rooms = [150_000_000, 150_000_000, 150_000_000, 250_000_000];
+    assert_eq!(answers(&book, &of_tier_i), rooms);
+    // Deposits: of the bank in d, of the others in i.
+    let deposits: Vec<RawQuestion> = (1..=4).map(|place| ask(place, 4)).collect();
+    let rooms = [150_000_000, 4_880_000_000, 150_000_000, 250_000_000];
+    assert_eq!(answers(&book, &deposits), rooms);
+    book.counterparties[1].parent = 0;
+    assert_eq!(answers(&book, &[ask(2, 4), ask(3, 11)]), [4_980_000_000, 250_000_000]);
+    // A chain of 500, all of whose assets are the first one's.
+    let mut chain = largest_report_book();
+    for (parent, counterparty) in (0..).zip(&mut chain.counterparties) {
+        counterparty.parent = parent;
+    }
+    let mut single = chain.clone();
+    chain.assets.iter_mut().for_each(|asset| asset.counterparty = 1);
+    chain.mitigants.iter_mut().for_each(|mitigant| mitigant.counterparty = 1);
+    single.assets.iter_mut().for_each(|asset| asset.counterparty = 500);
+    for book in [chain, single] {
+        let [first, last] = [1, 500].map(|place| answers(&book, &[ask(place, 11), ask(place, 4)]));
+        assert_eq!(first, last);
+    }
+}
+
+/// "the report's limits held": VAF stays, and with it W, which bank bills would raise and which
+/// lessens the limit of deposits; 5,000,000,000 less 1,000,000,000 of these.
+#[test]
+fn c16_limits_held() {
+    let mut book = RawBook::empty(TOTAL, BASE, 0);
+    book.counterparties = vec![bank(), bank()];
+    book.asset(held(0, 4, 1, 4_000_000_000), &[]);
+    book.asset(held(0, 3, 2, 1_000_000_000), &[]);
+    // T4: one cent more of the bills raises the charge by row d's limit, which is held here.
+    let questions = [ask(2, 3), ask(1, 4), ask(2, 4), ask(1, 3)];
+    let rooms = [1_500_000_000, 0, 3_000_000_000, 0];
+    assert_eq!(answers(&book, &questions), rooms);
+}
+
+/// A3 is held: T8's reinsurers have an A3 excess of 250,000,000 and excesses of 100,000,000 in tier
+/// h reinsurance. That takes the room of what ranks at or below, and leaves that of the rest.
+#[test]
+fn c16_a3_held() {
+    let t8 = reinsurers(&[(0, 600_000_000), (0, 600_000_000), (0, 600_000_000)]);
+    assert_eq!(answers(&t8, &[ask(1, 11), ask(2, 6), ask(3, 8)]), [0, 0, 0]);
+    // Within their tiers, over A3's limit: the charge is A3's alone, and room is room.
+    let over = reinsurers(&[(0, 450_000_000), (0, 450_000_000), (0, 450_000_000)]);
+    assert_eq!(report(&over).charge(), 100_000_000);
+    assert_eq!(answers(&over, &[ask(1, 11), ask(2, 6), ask(3, 8)]), [50_000_000; 3]);
+}
+
+/// C-11: no question is of tiers 13 to 15, which count among the others. 500, 330 and 170 of VAF′
+/// 1,000, with 100 in each.
+#[test]
+fn c16_specialist_funds() {
+    let mut book = specialist(1_000, 0);
+    book.excluded = 300;
+    book.counterparty(RawCounterparty::default());
+    for months in [0, 3, 12] {
+        let asset = RawAsset { combination_stress: 100, ..retrocession(1, months, 0) };
+        book.asset(asset, &[]);
+    }
+    // 70, 130 and 200 are left at 15, 14 and 13, each for what ranks below it.
+    for (limit, room) in [
+        (0, 0),
+        (50, 50),
+        (169, 70),
+        (170, 70),
+        (171, 71),
+        (229, 129),
+        (230, 130),
+        (330, 130),
+        (331, 131),
+        (400, 200),
+        (500, 200),
+        (501, 201),
+        (900, 600),
+    ] {
+        let schedule = fixed_limits([0, 0, 0, 0, limit]);
+        assert_eq!(answers_under(&schedule, &book, &[ask(1, 11)]), [room], "limit {limit}");
+    }
+}
+
+/// Whatever is asked beside it, before it and behind it: "each answer equals what the question gets
+/// when sent singly".
+#[test]
+fn c16_sent_singly() {
+    for book in [sample(), t2_at_desks(), sixteen_tiers(2, 10, 1_000), with_mitigants(256)] {
+        let mut questions = ask_all(&book);
+        let singly = |question: &RawQuestion| answers(&book, &[*question])[0];
+        let wanted: Vec<u64> = questions.iter().map(singly).collect();
+        assert_eq!(answers(&book, &questions), wanted);
+        questions.reverse();
+        assert!(answers(&book, &questions).iter().rev().eq(&wanted));
+        let again: Vec<RawQuestion> = questions.iter().cycle().take(200).copied().collect();
+        assert!(answers(&book, &again).iter().eq(wanted.iter().rev().cycle().take(200)));
+    }
+}
+
+/// Desks and the version of a book change no answer.
+#[test]
+fn c16_both_versions_of_a_book() {
+    for book in [sample(), with_mitigants(255), largest_report_book()] {
+        let questions = &ask_all(&book)[..40.min(10 * book.counterparties.len())];
+        let wanted = answers(&book, questions);
+        let mut at_desks = RawBook { version: 2, ..book };
+        for (place, asset) in (0..).zip(&mut at_desks.assets) {
+            asset.desk = (place * 7) as u8;
+        }
+        assert_eq!(answers(&at_desks, questions), wanted);
+    }
+}
+
+/// The library's charge of a book's bytes.
+fn charge(schedule: &[u8], book: &[u8]) -> u64 {
+    let mut report = vec![0; LARGEST_REPORT];
+    assert_eq!(packed_report(schedule, book, &mut report) >> 32, 0);
+    u64::from_le_bytes(report[64..72].try_into().unwrap())
+}
+
+/// "without raising the charge; one cent more raises it": on small funds every amount from 0 on is
+/// tried, by the second implementation's charge, and by the library's own report of the book with
+/// so much more. Its header's amounts stay, and no limit is a part of one or lessened by W.
+#[test]
+fn c16_every_amount_tried() {
+    let last = 400;
+    let (mut funds, mut rooms) = (0, 0);
+    for number in 0..300 {
+        let (schedule, book) = small_fund(&mut Random::new(16, number));
+        let (schedule, bytes) = (schedule.bytes(), book.bytes());
+        let questions = ask_all(&book);
+        let found = answers_under(&schedule, &book, &questions);
+        let list = RawQuestion::list(&questions);
+        let by_trying = tried(&schedule, &bytes, &list, last).expect("an accepted book");
+        let before = charge(&schedule, &bytes);
+        for ((question, answer), by_trying) in questions.iter().zip(found).zip(by_trying) {
+            assert_eq!(answer.min(last), by_trying, "{question:?}");
+            let with = |more| charge(&schedule, &bought(&bytes, *question, more).unwrap());
+            if answer == MOST {
+                assert_eq!(with(MOST), before);
+                continue;
+            }
+            assert!(answer < last, "{question:?}");
+            rooms += u64::from(answer > 0);
+            // Every fifth fund by its reports too.
+            if number % 5 == 0 {
+                assert!((0..=answer).all(|more| with(more) == before), "{question:?}");
+                assert!((answer + 1..answer + 9).all(|more| with(more) > before), "{question:?}");
+            }
+        }
+        funds += u64::from(before > 0);
+    }
+    assert!(funds > 100 && rooms > 2_000, "{funds} with a charge, {rooms} with room");
+}
+
+/// "a list of up to 200 questions": 0, 1, 200 and 201.
+#[test]
+fn c16_how_many_questions() {
+    assert_eq!((QUESTION, ANSWER, MOST_QUESTIONS), (3, 8, 200));
+    let book = t2_at_desks();
+    assert_eq!(answers(&book, &[]), []);
+    assert_eq!(headroom(&published(), &book.bytes(), &[], &mut []), Answer::Written(0));
+    let mut of_bank = book.clone();
+    of_bank.counterparties[0] = bank();
+    for count in [1, 2, 199, 200] {
+        assert_eq!(answers(&of_bank, &vec![ask(1, 4); count]), vec![4_500_000_000; count]);
+    }
+    for count in [201, 202, 255, 256, 400, 456, 21_846] {
+        let list = RawQuestion::list(&vec![ask(1, 4); count]);
+        for room in [ANSWER * count, ANSWER * 200, 0] {
+            let refusal = not_answered(&published(), &of_bank.bytes(), &list, room);
+            assert_eq!(refusal, Refusal::Questions, "{count} questions");
+        }
+    }
+    // Without a counterparty no place is in range; an empty list is.
+    let none = RawBook::empty(TOTAL, BASE, 0);
+    assert_eq!(answers(&none, &[]), []);
+    for place in [0, 1, 65_535] {
+        let list = RawQuestion::list(&[ask(place, 11)]);
+        assert_eq!(not_answered(&published(), &none.bytes(), &list, 8), Refusal::Questions);
+    }
+}
+
+/// "or its bytes aren't three a question": 600 bytes are the longest list.
+#[test]
+fn c16_bytes_of_a_list() {
+    let book = of_a_bank(&[(4, 1)]).bytes();
+    let list = RawQuestion::list(&vec![ask(1, 4); 300]);
+    for length in (0..=31).chain(590..=620) {
+        let answer = headroom(&published(), &book, &list[..length], &mut [0; 8 * 300]);
+        let accepted = length % 3 == 0 && length <= 600;
+        let wanted = if accepted {
+            Answer::Written(length / 3 * 8)
+        } else {
+            Answer::Refused(Refusal::Questions)
+        };
+        assert_eq!(answer, wanted, "{length} bytes");
+    }
+    for (length, room) in [(1, 0), (2, 0), (2, 8), (4, 8), (4, 7), (601, 1_600), (602, 0)] {
+        let refusal = not_answered(&published(), &book, &list[..length], room);
+        assert_eq!(refusal, Refusal::Questions, "{length} bytes");
+    }
+}
+
+/// "20 when a place or kind is out of range": 1 to C, and 1 to 11 but 9, at each spot of a list.
+#[test]
+fn c16_places_and_kinds() {
+    for counterparties in [1, 2, 255, 256, 257, 500] {
+        let mut book = RawBook::empty(TOTAL, BASE, 0);
+        book.counterparties = vec![graded(); usize::from(counterparties)];
+        let bytes = book.bytes();
+        let accepted = |count: usize, spot: usize, question| {
+            let mut list = vec![ask(1, 11); count];
+            list[spot] = question;
+            let list = RawQuestion::list(&list);
+            match headroom(&published(), &bytes, &list, &mut [0; 1_600]) {
+                Answer::Written(length) => length == 8 * count,
+                Answer::Refused(refusal) => {
+                    assert_eq!(refusal, Refusal::Questions);
+                    assert_eq!(not_answered(&published(), &bytes, &list, 0), Refusal::Questions);
+                    false
+                }
+            }
+        };
+        for (count, spot) in [(1, 0), (3, 0), (3, 1), (3, 2), (200, 0), (200, 100), (200, 199)] {
+            let last = counterparties;
+            for place in [0, 1, last - 1, last, last + 1, last + 256, 32_768, 65_535] {
+                let wanted = (1..=last).contains(&place);
+                assert_eq!(accepted(count, spot, ask(place, 6)), wanted, "place {place}");
+            }
+            for kind in 0..=255 {
+                let wanted = matches!(kind, 1..=8 | 10 | 11);
+                assert_eq!(accepted(count, spot, ask(last, kind)), wanted, "kind {kind}");
+            }
+        }
+    }
+}
+
+/// "21 when the answer buffer is shorter than eight bytes a question": no other byte is written, and
+/// what was there before does not matter.
+#[test]
+fn c16_the_buffer() {
+    let book = of_a_bank(&[(11, 40), (4, 500)]);
+    let bytes = book.bytes();
+    for count in [0, 1, 2, 3, 17, 200] {
+        let questions: Vec<RawQuestion> =
+            ask_all(&book).iter().cycle().take(count).copied().collect();
+        let (list, wanted) = (RawQuestion::list(&questions), answers(&book, &questions));
+        let room = ANSWER * count;
+        for short in (1..=room.min(20)).chain([room / 2, room].into_iter().filter(|&it| it > 0)) {
+            let refusal = not_answered(&published(), &bytes, &list, room - short);
+            assert_eq!(refusal, Refusal::AnswersShort, "{short} bytes short");
+        }
+        for filling in [0x00, 0xff, 0x5a] {
+            for (start, behind) in [(0, 0), (1, 1), (3, 7), (7, 8), (5, 9), (2, 100_000)] {
+                let end = start + room;
+                let mut area = vec![filling; end + behind + 1];
+                let lent = &mut area[start..end + behind];
+                assert_eq!(packed_headroom(&published(), &bytes, &list, lent), room as u64);
+                let found = (0..count).map(|number| amount(&area[start..end], number));
+                assert!(found.eq(wanted.iter().copied()));
+                assert!(area[..start].iter().chain(&area[end..]).all(|&byte| byte == filling));
+            }
+        }
+    }
+}
+
+/// 21, 20, 15, 14, 17, 13, then 12 to 1: each fault is put before those that are there already. No
+/// list is refused 16.
+#[test]
+fn c16_refusals_in_their_order() {
+    let mut schedule = published().to_vec();
+    let mut book = specialist(5, 0);
+    book.counterparty(graded());
+    let cash = RawMitigant { form: 1, flags: 31, counterparty: 1, value: 1 };
+    book.asset(retrocession(1, 0, 5), &[cash]);
+    let refused = |schedule: &[u8], book: &RawBook, list: &[u8]| {
+        not_answered(schedule, &book.bytes(), list, 7)
+    };
+    assert_eq!(refused(&schedule, &book, &[1, 0, 11]), Refusal::AnswersShort);
+    let lists: [&[u8]; 7] =
+        [&[0, 0, 11], &[2, 0, 11], &[1, 0, 0], &[1, 0, 9], &[1, 0, 12], &[1, 0, 11, 1], &[1, 0]];
+    for list in lists {
+        assert_eq!(refused(&schedule, &book, list), Refusal::Questions);
+        assert_eq!(not_answered(&schedule, &book.bytes(), list, 1_600), Refusal::Questions);
+    }
+    let list = [1, 0, 9];
+    type Fault = (fn(&mut RawBook), Refusal);
+    let faults: [Fault; 11] = [
+        (|book| book.excluded = 6, Refusal::StressedAssets),
+        (|book| book.total = 4, Refusal::ReinsuranceValues),
+        (|book| book.specialist = 0, Refusal::SpecialistEntry(1)),
+        (|book| book.assets[0].mitigants = 2, Refusal::MitigantCounts),
+        (|book| book.mitigants[0].form = 6, Refusal::Mitigant(1)),
+        (|book| book.assets[0].kind = 12, Refusal::Asset(1)),
+        (|book| book.counterparties[0].parent = 1, Refusal::Counterparty(1)),
+        (|book| book.excluded = MOST + 1, Refusal::BookAmounts),
+        (|book| book.counts = Some([1, 901, 1]), Refusal::BookCounts),
+        (|book| book.version = 3, Refusal::BookVersion),
+        (|book| book.specialist = 2, Refusal::BookMark),
+    ];
+    for (fault, wanted) in faults {
+        fault(&mut book);
+        assert_eq!(refused(&schedule, &book, &list), wanted);
+    }
+    let short = &book.bytes()[..39];
+    assert_eq!(not_answered(&schedule, short, &list, 0), Refusal::BookLength);
+    for (place, byte, wanted) in [
+        (6, 101, Refusal::ScheduleRates),
+        (4, 3, Refusal::ScheduleVersion),
+        (3, 1, Refusal::ScheduleMark),
+    ] {
+        schedule[place] = byte;
+        assert_eq!(not_answered(&schedule, short, &list, 0), wanted);
+    }
+    assert_eq!(not_answered(&schedule[..121], short, &list, 0), Refusal::ScheduleLength);
+    assert_eq!(not_answered(&[], &[], &[9; 601], 0), Refusal::ScheduleLength);
+}
+
+/// Every byte string gets the report's own refusal: books cut off anywhere, lists good and bad.
+#[test]
+fn c16_any_bytes() {
+    let book = t2_at_desks().bytes();
+    for length in 0..book.len() {
+        let wanted = refusal(&published(), &book[..length], LARGEST_REPORT);
+        for list in [&[1, 0, 11][..], &[], &[0, 0]] {
+            assert_eq!(not_answered(&published(), &book[..length], list, 8), wanted);
+        }
+    }
 }

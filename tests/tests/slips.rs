@@ -2,20 +2,24 @@
 //! a library, is caught by it.
 
 use weightrose_tests::compare::{
-    adds_up, compare, compare_bills, library, library_bills, library_convert, outcome, second,
-    second_bills, second_convert, Biller, Lent, Subject, GUARD,
+    adds_up, compare, compare_bills, compare_headroom, library, library_bills, library_convert,
+    library_headroom, may_be_bought, outcome, second, second_bills, second_convert,
+    second_headroom, Answerer, Biller, Lent, Subject, GUARD,
 };
-use weightrose_tests::inputs::{sample, Billings, Conversions, Input, Inputs};
+use weightrose_tests::inputs::{
+    sample, Asking, Askings, Billings, Conversions, Input, Inputs, Room,
+};
 use weightrose_tests::raw::RawSchedule;
-use weightrose_tests::second::{bills_by, convert_by, report_by, Slip};
+use weightrose_tests::second::{bills_by, convert_by, headroom_by, report_by, Slip};
 use weightrose_tests::weightrose::{
-    bill, report, Answer, Refusal, BILLS, HEADER, LARGEST_REPORT, LINE,
+    amount, bill, report, Answer, Refusal, ANSWER, BILLS, HEADER, LARGEST_REPORT, LINE, QUESTION,
 };
 
 const SEED: u64 = 117;
 const SEEDED: usize = 20_000;
 const SEEDED_CONVERSIONS: usize = 10_000;
 const SEEDED_BILLINGS: usize = 20_000;
+const SEEDED_ASKINGS: usize = 20_000;
 
 /// The first seeded input on which a subject parts from the library.
 fn caught(inputs: &Inputs, subject: Subject) -> Option<usize> {
@@ -207,12 +211,154 @@ fn bills_that_do_not_add_up_are_caught() {
     }
 }
 
+/// The first seeded input of the questions on which an answerer parts from the library.
+fn caught_answering(inputs: &Askings, answerer: Answerer) -> Option<usize> {
+    let mut seeded = inputs.fixed()..inputs.fixed() + SEEDED_ASKINGS;
+    seeded
+        .find(|&number| compare_headroom(&library_headroom, answerer, &inputs.get(number)).is_err())
+}
+
+/// C-16: those of the answers, and those of the report that reach one.
+#[test]
+fn each_slip_of_the_answers_is_caught() {
+    let inputs = Askings::new(SEED);
+    let passes = |slip: &Slip| {
+        let wrong = |schedule: &[u8], book: &[u8], questions: &[u8], lent: &mut Lent| {
+            headroom_by(slip, schedule, book, questions, lent.buffer()).packed()
+        };
+        caught_answering(&inputs, &wrong).is_none()
+    };
+    let of_report =
+        |slip: &Slip| slip.of_report() && !slip.of_report_alone() && !slip.of_no_answer();
+    let reaches = |slip: &Slip| slip.of_headroom() || of_report(slip);
+    let missed: Vec<Slip> = Slip::ALL.iter().copied().filter(reaches).filter(passes).collect();
+    assert!(missed.is_empty(), "not caught: {missed:?}");
+}
+
+/// C-16: bytes that answers could leave or change, and answers that look right from afar.
+#[test]
+fn answers_out_of_place_are_caught() {
+    type Spoil = fn(&[u8], usize, &mut [u8]);
+    let slips: [(&str, Spoil); 9] = [
+        ("a byte after the answers", |_, length, lent| {
+            lent.iter_mut().skip(length).take(1).for_each(|byte| *byte ^= 1);
+        }),
+        ("the last byte left as it was", |before, length, lent| {
+            lent[length - 1] = before[length - 1];
+        }),
+        ("the last answer left as it was", |before, length, lent| {
+            lent[length - ANSWER..length].copy_from_slice(&before[length - ANSWER..length]);
+        }),
+        ("answers of 0 left as they were", |before, length, lent| {
+            for (answer, before) in lent[..length].chunks_mut(ANSWER).zip(before.chunks(ANSWER)) {
+                if answer == [0; ANSWER] {
+                    answer.copy_from_slice(before);
+                }
+            }
+        }),
+        ("bytes in the other order", |_, length, lent| {
+            lent[..length].chunks_mut(ANSWER).for_each(<[u8]>::reverse);
+        }),
+        ("answers from the last on", |_, length, lent| {
+            let answers: Vec<u8> = lent[..length].rchunks(ANSWER).flatten().copied().collect();
+            lent[..length].copy_from_slice(&answers);
+        }),
+        ("answers by size", |_, length, lent| {
+            let mut amounts: Vec<u64> =
+                (0..length / ANSWER).map(|number| amount(lent, number)).collect();
+            amounts.sort_unstable();
+            let bytes: Vec<u8> = amounts.into_iter().flat_map(u64::to_le_bytes).collect();
+            lent[..length].copy_from_slice(&bytes);
+        }),
+        ("the first answer for all", |_, length, lent| {
+            (ANSWER..length).step_by(ANSWER).for_each(|at| lent.copy_within(..ANSWER, at));
+        }),
+        ("the answers left as they were", |before, _, lent| lent.copy_from_slice(before)),
+    ];
+    let inputs = Askings::new(SEED);
+    for (name, spoil) in slips {
+        let wrong: Answerer = &|schedule, book, questions, lent| {
+            let before = lent.buffer().to_vec();
+            let packed = second_headroom(schedule, book, questions, lent);
+            if let Some(Answer::Written(length @ 1..)) = Answer::unpacked(packed) {
+                spoil(&before, length, lent.buffer());
+            }
+            packed
+        };
+        assert!(caught_answering(&inputs, wrong).is_some(), "{name} was not caught");
+    }
+    let by_refusal: Answerer = &|schedule, book, questions, lent| {
+        let packed = second_headroom(schedule, book, questions, lent);
+        if packed >> 32 != 0 {
+            lent.buffer().iter_mut().take(1).for_each(|byte| *byte ^= 1);
+        }
+        packed
+    };
+    assert!(caught_answering(&inputs, by_refusal).is_some());
+    let with_place: Answerer =
+        &|schedule, book, questions, lent| match second_headroom(schedule, book, questions, lent) {
+            packed if packed >> 32 == 20 => packed | 1,
+            packed => packed,
+        };
+    assert!(caught_answering(&inputs, with_place).is_some());
+    let in_questions: Answerer =
+        &|schedule, book, questions, lent| match second_headroom(schedule, book, questions, lent) {
+            packed if packed >> 32 == 0 => packed / ANSWER as u64,
+            packed => packed,
+        };
+    assert!(caught_answering(&inputs, in_questions).is_some());
+    for refusal in [Refusal::Questions, Refusal::AnswersShort] {
+        let refused: Answerer = &|_, _, _, _| Answer::Refused(refusal).packed();
+        assert!(caught_answering(&inputs, refused).is_some());
+    }
+}
+
+/// C-16: "without raising the charge; one cent more raises it": answers of which that is not so are
+/// seen by the library's own reports.
+#[test]
+fn answers_that_do_not_hold_are_caught() {
+    let inputs = Askings::new(SEED);
+    let does_not_hold = |slip: Slip| {
+        (inputs.fixed()..inputs.fixed() + SEEDED_ASKINGS).any(|number| {
+            let mut asking = inputs.get(number);
+            let length = asking.questions.len() / QUESTION * ANSWER;
+            asking.input.room = Room::Bytes(length);
+            let Asking { input, questions } = &asking;
+            let wrong: Subject = &|schedule, book, lent| {
+                headroom_by(&slip, schedule, book, questions, lent.buffer()).packed()
+            };
+            let outcome = outcome(wrong, input, length);
+            outcome.answer == length as u64
+                && length > 0
+                && may_be_bought(&asking, &outcome.area[GUARD..GUARD + length]).is_err()
+        })
+    };
+    for slip in [
+        Slip::AskedOfTheCounterpartyAlone,
+        Slip::TierOfTheTopmostParent,
+        Slip::WithoutLimitAnswers0,
+        Slip::OwnTierAlone,
+        Slip::GroupsTiersAlone,
+        Slip::EqualLimitsNotAsked,
+        Slip::ExposureForStanding,
+        Slip::GroupsWithAnExcessAnswer0,
+        Slip::OneCentMore,
+        Slip::OneCentLess,
+        Slip::MostNotReached,
+        Slip::LimitsWithTheAmount,
+        Slip::AnswersBoughtInTurn,
+    ] {
+        assert!(does_not_hold(slip), "{slip:?}");
+    }
+}
+
 #[test]
 fn the_right_one_is_not_caught() {
     let inputs = Inputs::new(SEED);
     assert_eq!(caught(&inputs, &second), None);
     assert_eq!(caught_converting(&Conversions::new(SEED), &second_convert), None);
     assert_eq!(caught_billing(&Billings::new(SEED), &second_bills), None);
+    assert_eq!(caught_answering(&Askings::new(SEED), &second_headroom), None);
 }
 
 /// A subject that answers as the second implementation and then spoils what it lent.

@@ -1,4 +1,4 @@
--- The answer, section by section of the checks: what is refused changes no byte.
+-- The answer: what is refused changes no byte; 19, 16, and what passes all checks.
 use mathlib.Core.List.{List}
 use mathlib.Core.Path.{_≡_, refl}
 use Prim.Native.Nat.{ℕ, _≤_, _<_}
@@ -9,40 +9,25 @@ use Rattle.refusal.specs.declared.Answer.the-variants.{Written, Refused}
 use Rattle.refusal.specs.declared.Refusal.{Refusal}
 use Rattle.refusal.specs.declared.Refusal.the-variants.{BufferShort, CostRate}
 use Rattle.bills.specs.Bills.{mostRate, billsSize}
-use Rattle.schedule.specs.Check.{scheduleCheck}
 use Rattle.book.specs.Book.{bookOf}
-use Rattle.book.specs.Check.{bookCheck}
 use Rattle.exposure.specs.Values.{fundCheck}
 use Rattle.fund.specs.Fund.{Passed}
 use Rattle.billing.specs.Billed.{billCheck, billAnswer, Billed}
 
 module _ (schedule book : List ℕ) (rate : ℕ) (before : List ℕ) where
-  refused : {why : Refusal} → billCheck schedule book rate (length before) ≡ Bad why → Billed schedule book rate before before (Refused why)
+  pub refused : {why : Refusal} → billCheck schedule book rate (length before) ≡ Bad why → Billed schedule book rate before before (Refused why)
   unfolding billAnswer
   refused e = record { answer = rw e refl; bytes = refl; sums = tt }
 
-  pub bad-schedule : {why : Refusal} → scheduleCheck schedule ≡ Bad why → Billed schedule book rate before before (Refused why)
-  unfolding billCheck
-  bad-schedule e = refused (rw e refl)
-
-  pub bad-book : {why : Refusal} → scheduleCheck schedule ≡ Fine → bookCheck book ≡ Bad why → Billed schedule book rate before before (Refused why)
-  unfolding billCheck
-  bad-book e f = refused (rw (e, f) refl)
-
-  module _ (p : Passed schedule book) where
-    pub bad-fund : {why : Refusal} → fundCheck (bookOf book) ≡ Bad why → Billed schedule book rate before before (Refused why)
+  module _ (p : Passed schedule book) (f : fundCheck (bookOf book) ≡ Fine) where
+    pub bad-rate : mostRate < rate → Billed schedule book rate before before (Refused CostRate)
     unfolding billCheck
-    bad-fund f = refused (rw (p .of-schedule, p .of-book, f) refl)
+    bad-rate l = refused (rw (p .of-schedule, p .of-book, f, lt-leb rate mostRate l) refl)
 
-    module _ (f : fundCheck (bookOf book) ≡ Fine) where
-      pub bad-rate : mostRate < rate → Billed schedule book rate before before (Refused CostRate)
-      unfolding billCheck
-      bad-rate l = refused (rw (p .of-schedule, p .of-book, f, lt-leb rate mostRate l) refl)
+    pub short : rate ≤ mostRate → length before < billsSize → Billed schedule book rate before before (Refused BufferShort)
+    unfolding billCheck
+    short h l = refused (rw (p .of-schedule, p .of-book, f, le-leb rate mostRate h, lt-leb billsSize (length before) l) refl)
 
-      pub short : rate ≤ mostRate → length before < billsSize → Billed schedule book rate before before (Refused BufferShort)
-      unfolding billCheck
-      short h l = refused (rw (p .of-schedule, p .of-book, f, le-leb rate mostRate h, lt-leb billsSize (length before) l) refl)
-
-      pub fine : rate ≤ mostRate → billsSize ≤ length before → Written billsSize ≡ billAnswer schedule book rate (length before)
-      unfolding billCheck billAnswer
-      fine h l = rw (p .of-schedule, p .of-book, f, le-leb rate mostRate h, le-leb billsSize (length before) l) refl
+    pub fine : rate ≤ mostRate → billsSize ≤ length before → Written billsSize ≡ billAnswer schedule book rate (length before)
+    unfolding billCheck billAnswer
+    fine h l = rw (p .of-schedule, p .of-book, f, le-leb rate mostRate h, le-leb billsSize (length before) l) refl

@@ -155,7 +155,7 @@ module _ (n : ℕ) (le : ℕ → ℕ → Bool) (L e : ℕ → ℕ) (ks : List �
   x : ℕ → ℕ
   x = excess L e ks
 
-  stands-prefix : (c : ℕ → ℕ) → Prefix (λ u. e u - c u) 0 ks (stands n le e c)
+  pub stands-prefix : (c : ℕ → ℕ) → Prefix (λ u. e u - c u) 0 ks (stands n le e c)
   unfolding stands
   stands-prefix c = prefix le L o (λ u. e u - c u) (stands n le e c) ks 0 w (all-map {P = λ t. t < n} {Q = λ t. stands n le e c t ≡ 0 + sumOf (λ u. if le u t then e u - c u else 0) ks} (λ t _. rw (a .once (λ u. (if le u t then e u - c u else 0))) (omega arith)) ks (a .only))
 
@@ -163,8 +163,12 @@ module _ (n : ℕ) (le : ℕ → ℕ → Bool) (L e : ℕ → ℕ) (ks : List �
   unfolding x excess left
   x-walk = walk le L o e x ks 0 w (all-map (λ t _. refl) ks (a .only))
 
-  x-rising : Rising L 0 ks
-  x-rising = rising le L o ks 0 (all-map (λ t _. omega arith) ks (a .only)) w
+  pub excess-walk : Walk L e 0 ks (excess L e ks)
+  unfolding x
+  excess-walk = x-walk
+
+  pub all-rising : Rising L 0 ks
+  all-rising = rising le L o ks 0 (all-map (λ t _. omega arith) ks (a .only)) w
 
   x-within : (t : ℕ) → x t ≤ e t
   unfolding x excess
@@ -174,12 +178,12 @@ module _ (n : ℕ) (le : ℕ → ℕ → Bool) (L e : ℕ → ℕ) (ks : List �
       (c : ℕ → ℕ) → Feasible n le L e c
       → All (λ t. (stands n le e c t ≤ stands n le e x t) × (stands n le e x t ≤ L t)) ks × (0 + sumOf (λ u. e u - c u) ks ≤ 0 + sumOf (λ u. e u - x u) ks)
   against c h =
-      core L e x (λ u. e u - c u) (stands n le e c) (stands n le e x) (λ t. omega arith) ks 0 0 (omega arith) x-rising x-walk (stands-prefix x) (stands-prefix c)
+      core L e x (λ u. e u - c u) (stands n le e c) (stands n le e x) (λ t. omega arith) ks 0 0 (omega arith) all-rising x-walk (stands-prefix x) (stands-prefix c)
       (all-map (λ t l. h .fits t l) ks (a .only))
 
   x-fits : All (λ t. (0 ≤ stands n le e x t) × (stands n le e x t ≤ L t)) ks
   x-fits =
-      core L e x (λ _. 0) (λ _. 0) (stands n le e x) (λ t. omega arith) ks 0 0 (omega arith) x-rising x-walk (stands-prefix x) (zeros ks)
+      core L e x (λ _. 0) (λ _. 0) (stands n le e x) (λ t. omega arith) ks 0 0 (omega arith) all-rising x-walk (stands-prefix x) (zeros ks)
       (all-map (λ t l q. omega arith) ks (a .only)) .0
 
   pub optimal : Optimal n le L e (excess L e ks)

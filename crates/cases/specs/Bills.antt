@@ -1,11 +1,10 @@
 -- C-14, "Capital cost per desk": lines' and desks' excesses and the bills, computed from bytes to bytes; the answers, and what stands in the lent buffer.
 use mathlib.Core.Bool.{Bool, _&&_}
 use mathlib.Core.List.{List, [], _∷_, map}
-use Prim.Native.Nat.{ℕ, zero, suc, _*_, _/_}
+use Prim.Native.Nat.{ℕ, _*_, _/_}
 use lib.Dec.{T}
 use lib.ListN.{length, set, take, drop, replicate}
 use Rattle.words.specs.Words.{_=?_, sumOf, every, countFrom}
-use Rattle.wire.specs.Bytes.{u64At}
 use Rattle.wire.specs.Amounts.{amountsBytes}
 use Rattle.refusal.specs.declared.Answer.{Answer}
 use Rattle.book.specs.Build.{counterparty, deskAsset, mitigant, deskBytes}
@@ -16,6 +15,7 @@ use Rattle.report.specs.Answer.{fundIn, reportOf, writtenBy}
 use Rattle.desks.specs.BookLines.{lineOf, holdingLines, bookLines}
 use Rattle.billing.specs.Billed.{linesOf, excessIn, billsOf, billCheck, billAnswer}
 use Rattle.cases.specs.Build.{plain, usual, name, gradedName}
+use Rattle.cases.specs.Reading.{amountsIn}
 use Rattle.cases.specs.Table.{publishedBytes, same, accepted, turned}
 use Rattle.cases.specs.Opened.{reportComputed}
 
@@ -32,11 +32,6 @@ none = replicate deskCount 0
 
 abbrev desk : ℕ → ℕ → List ℕ → List ℕ
 desk d amount others = set others d amount
-
--- "amounts of eight bytes", so many, read off bytes
-abbrev amountsIn : ℕ → List ℕ → List ℕ
-amountsIn zero bytes = []
-amountsIn (suc more) bytes = u64At bytes 0 ∷ amountsIn more (drop 8 bytes)
 
 abbrev total : List ℕ → ℕ
 total xs = sumOf (λ x. x) xs

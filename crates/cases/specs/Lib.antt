@@ -16,3 +16,4 @@ pub mod Edges
 pub mod Buffer
 pub mod Desks
 pub mod Bills
+pub mod Headroom

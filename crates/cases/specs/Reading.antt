@@ -1,9 +1,11 @@
--- What is read off a report's bytes, and how a table writes it.
+-- What is read off a report's bytes, and how a table writes it; and amounts off the bytes of any entry.
 --   vafIn .. a3LimitIn    figures of the header
 --   printed, cells        its lines
 --   line, cell            one line, as a table has it
+--   amountsIn             amounts one behind the other
 use mathlib.Core.List.{List, [], _∷_}
-use Prim.Native.Nat.{ℕ}
+use Prim.Native.Nat.{ℕ, zero, suc}
+use lib.ListN.{drop}
 use Rattle.words.specs.Words.{eachOf, countFrom}
 use Rattle.wire.specs.Bytes.{u64At}
 use Rattle.figures.specs.declared.Line.{Line}
@@ -49,3 +51,8 @@ cells r = eachLine (λ x. cell (x .top) (x .tier) (x .exposure)) r
 -- the set of its group's tiers per line
 abbrev pub tierSets : List ℕ → List ℕ
 tierSets r = eachLine (λ x. x .tiers ∷ []) r
+
+-- amounts of eight bytes, so many of them
+abbrev pub amountsIn : ℕ → List ℕ → List ℕ
+amountsIn zero bytes = []
+amountsIn (suc more) bytes = u64At bytes 0 ∷ amountsIn more (drop 8 bytes)

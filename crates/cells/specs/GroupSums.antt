@@ -2,11 +2,11 @@
 --   over-groups             a sum over the places 1 to C of what is 0 at a place with a parent
 --   exposure-none a3-none   such a place heads no group
 --   row-tier row-a3         the row of a group's number holds the exposures of the group that its top place heads
---   whole-le rows-le        all exposures of the groups in the tiers are at most 900 × M
+--   whole-le group-le rows-le   all exposures of the groups in the tiers are at most 900 × M, and so are those of one
 use mathlib.Core.Bool.{Bool, true, false, _&&_}
 use mathlib.Core.List.{List}
 use mathlib.Core.Path.{_≡_, refl, sym, ap, ap₂, _∙_}
-use Prim.Native.Nat.{ℕ, zero, suc, _+_, _*_, _≤_, _<_}
+use Prim.Native.Nat.{ℕ, zero, suc, _+_, _*_, _-_, _≤_, _<_}
 use native.Mathlib.Nat.{pos-of-ne-zero}
 use native.Mathlib.Omega.{arith}
 use lib.ListN.{length, getD, set}
@@ -31,7 +31,7 @@ use Rattle.parties.specs.Rows.{topsTo, headed}
 use Rattle.parties.specs.RowLaws.{top-alone, tops-le, headed-length, head-is, head-row}
 use Rattle.covering.specs.Bounds.{all-le}
 use Rattle.cells.specs.declared.Sums.{Sums}
-use Rattle.words.specs.Ranges.{sum-zero}
+use Rattle.words.specs.Ranges.{sum-zero, sum-within}
 use Rattle.cells.specs.Adding.{amount-none}
 use Rattle.cells.specs.Cells.{rowAt, Posted}
 
@@ -133,6 +133,12 @@ module _ (B : Book) (count places : ℕ) where
 -- over the places 1 to `places` and the tiers below `count`
 pub whole-le : (b : List ℕ) → Accepted b → (count places : ℕ) → sum (λ k. sum (exposureOf (bookOf b) (k + 1)) count) places ≤ 900 * M
 whole-le b acc count places = omega (arith, all-given (bookOf b) count places, all-le b acc)
+
+pub group-le : (b : List ℕ) → Accepted b → (count g : ℕ) → 0 < g → g ≤ C b → sum (exposureOf (bookOf b) g) count ≤ 900 * M
+group-le b acc count g l h =
+    let d : g - 1 + 1 ≡ g = omega arith in
+    let one = sum-within (λ k. sum (exposureOf (bookOf b) (k + 1)) count) (g - 1) (C b) (omega arith) in
+    omega (arith, whole-le b acc count (C b), rw d at one)
 
 -- over the rows of the groups
 pub rows-le : {b : List ℕ} {groups : ℕ} {cells₀ cells : List ℕ} {r : Sums} → Accepted b → Posted b groups cells₀ cells r → groups ≡ topsTo b (C b)

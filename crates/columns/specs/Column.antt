@@ -1,7 +1,7 @@
 -- The column of an exposure in its group's row: its tier's own number; but `billColumn` for tier c of kind 3, which makes up W, and from
 -- `a3Columns` on the tiers 1, 3, 4, 5, 6 of a counterparty not of kind 4, which count for A3.
 --   a3Tiers a3Column columnBy columnOf   the column
---   tierIn                               the tier that a column is part of
+--   tierIn Tiered                        the tier that a column is part of, and a table of them
 -- Two numbers of a counterparty, in digits to the base 32:
 --   classOf digit                        all that they depend on, as a number below 80; a digit
 --   wordAt wordOf                        the columns of exposures to it: digit kind - 1 for each kind but 9, digit 8 for what a guarantee covers
@@ -10,8 +10,9 @@
 --   ageAt stageOf ageOf halved trustOf   entry and months together; whether half may be covered; how far its promises count
 use mathlib.Core.Bool.{Bool, not, _&&_}
 use mathlib.Core.List.{List, [], _∷_}
-use Prim.Native.Nat.{ℕ, _+_, _*_, _-_, _/_, _%_, _^_}
-use lib.ListN.{getD}
+use mathlib.Core.Path.{_≡_}
+use Prim.Native.Nat.{ℕ, _+_, _*_, _-_, _/_, _%_, _^_, _<_}
+use lib.ListN.{length, getD}
 use Rattle.words.specs.Words.{_≤?_, _=?_, if_then_else_}
 use Rattle.cascade.specs.Cascade.{tiers}
 use Rattle.book.specs.declared.Kind.the-variants.{Bank, LifeCompany}
@@ -19,7 +20,7 @@ use Rattle.book.specs.declared.Counterparty.{Counterparty}
 use Rattle.book.specs.Fields.{kindNumber, _is_, graded, related, affiliate}
 use Rattle.exposure.specs.declared.Exposure.{Exposure}
 use Rattle.exposure.specs.Tier.{tierBy}
-use Rattle.rows.specs.Rows.{billColumn, a3Columns}
+use Rattle.rows.specs.Rows.{columns, billColumn, a3Columns}
 
 -- the tiers of which A3 counts exposures to counterparties not of kind 4
 abbrev pub a3Tiers : List ℕ
@@ -45,6 +46,10 @@ columnOf x who = columnBy (x .kind =? 3) (who is LifeCompany) (tierBy x who)
 
 unfoldable pub tierIn : ℕ → ℕ
 tierIn c = if c ≤? tiers then c else getD (11 ∷ a3Tiers) (c - billColumn) 0
+
+pub record Tiered (table : List ℕ) : Type 0 where
+  pub size : length table ≡ columns
+  pub each : (c : ℕ) → c < columns → getD table c 0 ≡ tierIn c
 
 -- kind, whether graded, and flags
 unfoldable pub classOf : Counterparty → ℕ

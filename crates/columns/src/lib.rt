@@ -1,8 +1,9 @@
 // Two numbers of a counterparty, looked up once: the columns of all exposures to it, and its terms as a reinsurer and a guarantor.
 use book::Counterparty;
+use rows::COLUMNS;
 ghost use mathlib.Core.Path.{_≡_};
 ghost use Prim.Native.Nat.{_-_, _/_, _%_, _^_, _≤_, _<_};
-ghost use Rattle.columns.specs.Column.{classOf, wordAt, wordOf, termsAt, termsOf, digit, digitOf, ageOf};
+ghost use Rattle.columns.specs.Column.{classOf, wordAt, wordOf, termsAt, termsOf, digit, digitOf, ageOf, Tiered};
 
 // The last bits of byte n are five times the digit of form n (`digitOf`).
 const FORMS: u64 = 11167418289920;
@@ -213,6 +214,37 @@ pub fn terms_of(who: Counterparty) -> u64
     ensures { λ r. ⌜ r ≡ termsOf who ⌝ }
 {
     terms_at(class_of(who))
+}
+
+// The tier that each column is part of.
+pub fn tiers() -> [u16; COLUMNS]
+    ensures { λ r. ⌜ Tiered r ⌝ }
+{
+    [
+        0,
+        1,
+        2,
+        3,
+        4,
+        5,
+        6,
+        7,
+        8,
+        9,
+        10,
+        11,
+        12,
+        13,
+        14,
+        15,
+        16,
+        11,
+        1,
+        3,
+        4,
+        5,
+        6,
+    ]
 }
 
 // The column of a kind of exposure but 9.

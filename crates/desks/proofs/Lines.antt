@@ -18,7 +18,7 @@ use Rattle.book.specs.Check.{countsAdd}
 use Rattle.book.specs.Accepted.{Accepted, MitigantFits}
 use Rattle.exposure.specs.declared.Exposure.{Exposure}
 use Rattle.exposure.specs.Parts.{coveredPart, remainder}
-use Rattle.columns.specs.Column.{columnOf, tierIn, digit, digitOf}
+use Rattle.columns.specs.Column.{columnOf, tierIn, digit, digitOf, Tiered}
 use Rattle.columns.specs.ColumnLaws.{column-le, word-form}
 use Rattle.parties.specs.Rows.{rowOf}
 use Rattle.assets.specs.Assets.{restCell}
@@ -27,7 +27,7 @@ use Rattle.covering.specs.ByPlace.{partsAt}
 use Rattle.cells.specs.Cells.{columnAt, cellOf, partAt, Rowed}
 use Rattle.cells.specs.CellLaws.{Inside, rest-cell}
 use Rattle.desks.specs.BookLines.{lineOf}
-use Rattle.desks.specs.Pass.{Tiered, lineCell, partLines, restLine, assetLines, linesAt, Lined, PartsServed, Served}
+use Rattle.desks.specs.Pass.{lineCell, partLines, restLine, assetLines, linesAt, Lined, PartsServed, Served}
 use Rattle.desks.specs.LineLaws.{line-in, line-cell, line-small, rest-in, all-from}
 use Rattle.desks.specs.BookLaws.{desk-few}
 

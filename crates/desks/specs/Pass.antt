@@ -1,11 +1,11 @@
 -- The pass over a book's exposure lines, out of the tables by place.
---   Tiered lineCell               a table of the columns' tiers; the cell of a line
+--   lineCell                      the cell of a line
 --   partLines assetLines linesAt  the lines at the places of some mitigants, of an asset, of assets from a place on
 --   Lined                         tables with room for every line
 --   PartsServed Served            what is left in them behind some mitigants' lines, and behind all lines
 use mathlib.Core.List.{List, [], _∷_, _++_, map}
 use mathlib.Core.Path.{_≡_}
-use Prim.Native.Nat.{ℕ, zero, suc, _+_, _*_, _≤_, _<_}
+use Prim.Native.Nat.{ℕ, zero, suc, _+_, _*_, _≤_}
 use lib.ListN.{length, getD}
 use Rattle.rows.specs.Rows.{columns}
 use Rattle.bills.specs.Lines.{ExposureLine}
@@ -13,15 +13,9 @@ use Rattle.bills.specs.Bills.{deskCount}
 use Rattle.bills.specs.Tables.{stillAfter, desksAfter}
 use Rattle.book.specs.Records.{C, N, counterpartyAt, assetAt}
 use Rattle.exposure.specs.Parts.{remainder}
-use Rattle.columns.specs.Column.{tierIn}
 use Rattle.parties.specs.Rows.{topsTo, rowOf}
 use Rattle.covering.specs.ByPlace.{partsAt}
 use Rattle.desks.specs.BookLines.{lineOf}
-
--- the tier that each column is part of
-pub record Tiered (table : List ℕ) : Type 0 where
-  pub size : length table ≡ columns
-  pub each : (c : ℕ) → c < columns → getD table c 0 ≡ tierIn c
 
 unfoldable pub lineCell : List ℕ → ExposureLine → ℕ
 lineCell b x = rowOf b (x .group) + x .tier

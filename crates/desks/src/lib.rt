@@ -1,7 +1,6 @@
 // The pass over a book's exposure lines in book order, each asset's covered parts before its remainder: what stands is given to the lines, and
 // what a line is not given is its desk's.
 use book::Assets;
-use rows::COLUMNS;
 ghost use mathlib.Core.Path.{_≡_};
 ghost use Prim.Native.Nat.{ℕ, _+_, _-_, _≤_, _<_, _^_};
 ghost use lib.ListN.{length};
@@ -10,41 +9,10 @@ ghost use Rattle.bills.specs.Bills.{deskCount};
 ghost use Rattle.bills.specs.Tables.{byDesk, desksAfter};
 ghost use Rattle.book.specs.Records.{N, K, mitigantsStart, assetsOf, counterpartyAt};
 ghost use Rattle.book.specs.Accepted.{Accepted};
-ghost use Rattle.columns.specs.Column.{tierIn};
+ghost use Rattle.columns.specs.Column.{tierIn, Tiered};
 ghost use Rattle.cells.specs.Cells.{partAt, Rowed, Placed};
 ghost use Rattle.desks.specs.BookLines.{lineOf};
-ghost use Rattle.desks.specs.Pass.{Tiered, lineCell, partLines, linesAt, Lined, PartsServed, Served};
-
-// The tier that each column is part of.
-fn tiers_of_columns() -> [u16; COLUMNS]
-    ensures { λ r. ⌜ Tiered r ⌝ }
-{
-    [
-        0,
-        1,
-        2,
-        3,
-        4,
-        5,
-        6,
-        7,
-        8,
-        9,
-        10,
-        11,
-        12,
-        13,
-        14,
-        15,
-        16,
-        11,
-        1,
-        3,
-        4,
-        5,
-        6,
-    ]
-}
+ghost use Rattle.desks.specs.Pass.{lineCell, partLines, linesAt, Lined, PartsServed, Served};
 
 fn wide(x: u16) -> usize
     ensures { λ r. ⌜ r ≡ x ⌝ }
@@ -122,7 +90,7 @@ pub fn serve(
     requires { ⌜ (Accepted (now b)) × (assets ≡ assetsOf (now b)) × (start ≡ mitigantsStart (now b)) × (n ≡ N (now b)) × (Rowed (now b) (now words) (now rows)) × (Placed (now b) (now places)) × (K (now b) < length (now covered)) × (N (now b) < length (now rests)) × (Lined (now b) (now still) (now desks)) × ((d : ℕ) → byDesk (desksAfter (lineCell (now b)) (linesAt (now b) (now covered) (now rests) 1 1 (N (now b))) (now still) (now desks)) d < 2 ^ 64) ⌝ }
     ensures { λ _. ⌜ Served (now (b .entry)) (now (covered .entry)) (now (rests .entry)) (now (still .entry)) (now (desks .entry)) (now (still .exit)) (now (desks .exit)) ⌝ }
 {
-    let tiers = tiers_of_columns();
+    let tiers = columns::tiers();
     let mut first = 1;
     let mut place = 1;
     while place <= n {

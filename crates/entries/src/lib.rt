@@ -14,6 +14,7 @@ ghost use Rattle.fund.specs.Tables.{FundTables};
 ghost use Rattle.report.specs.Answer.{Answered};
 ghost use Rattle.report.specs.Tables.{Headed, Room};
 ghost use Rattle.billing.specs.Billed.{Billed};
+ghost use Rattle.questions.specs.Headroom.{Asked};
 ghost use Rattle.entries.specs.Tables.{Within, smallSize, mediumSize, fewGroups};
 ghost use Rattle.entries.specs.Wanted.{Promised};
 
@@ -24,10 +25,11 @@ const MEDIUM: usize = 128;
 
 const FEW: usize = 64;
 
-// What an entry makes of a fund; a rate in ten-thousandths.
+// What an entry makes of a fund; a rate in ten-thousandths. The questions of Headroom stand beside it: `asked` is empty for the others.
 enum Wanted {
     Report,
     Bills(u64),
+    Headroom,
 }
 
 // What is wanted of a fund that 14 and 15 let pass.
@@ -46,10 +48,11 @@ fn finish(
     sets: &mut [u16],
     list: &mut [u16],
     wanted: Wanted,
+    asked: &[u8],
     lent: &mut [u8],
 ) -> Answer
     requires { ⌜ (FundTables (now schedule) (now book) groups f (now words) (now rows) (now places) (now covered) (now rests) (now cells)) × (Headed (now book) (now heads)) × (Room groups (now sets) (now list)) ⌝ }
-    ensures { λ r. ⌜ Promised wanted (now (schedule .entry)) (now (book .entry)) (now (lent .entry)) (now (lent .exit)) r ⌝ }
+    ensures { λ r. ⌜ Promised wanted (now (schedule .entry)) (now (book .entry)) (now (asked .entry)) (now (lent .entry)) (now (lent .exit)) r ⌝ }
 {
     match wanted {
         Wanted::Report => report::finish(schedule, book, groups, f, heads, cells, sets, list, lent),
@@ -64,6 +67,17 @@ fn finish(
             places,
             covered,
             rests,
+            cells,
+            lent,
+        ),
+        Wanted::Headroom => questions::finish(
+            schedule,
+            book,
+            groups,
+            f,
+            asked,
+            words,
+            rows,
             cells,
             lent,
         ),
@@ -88,10 +102,11 @@ fn answer(
     sets: &mut [u16],
     list: &mut [u16],
     wanted: Wanted,
+    asked: &[u8],
     lent: &mut [u8],
 ) -> Answer
     requires { ⌜ (Passed (now schedule) (now book)) × (groups ≡ topsTo (now book) (C (now book))) × (Parties (now book) (now words) (now terms) (now rows)) × (Headed (now book) (now heads)) × (Lent (now book) (now starts) (now caps) (now rests) (now places) (now covered)) × (Zeros groups (now cells)) × (Room groups (now sets) (now list)) ⌝ }
-    ensures { λ r. ⌜ Promised wanted (now (schedule .entry)) (now (book .entry)) (now (lent .entry)) (now (lent .exit)) r ⌝ }
+    ensures { λ r. ⌜ Promised wanted (now (schedule .entry)) (now (book .entry)) (now (asked .entry)) (now (lent .entry)) (now (lent .exit)) r ⌝ }
 {
     let f = fund::make(
         schedule,
@@ -125,15 +140,23 @@ fn answer(
             sets,
             list,
             wanted,
+            asked,
             lent,
         ),
     }
 }
 
 // In tables for up to SMALL counterparties and four times as many assets and mitigants.
-fn small(schedule: &[u8], book: &[u8], c: usize, wanted: Wanted, lent: &mut [u8]) -> Answer
+fn small(
+    schedule: &[u8],
+    book: &[u8],
+    c: usize,
+    wanted: Wanted,
+    asked: &[u8],
+    lent: &mut [u8],
+) -> Answer
     requires { ⌜ (Passed (now schedule) (now book)) × (c ≡ C (now book)) × (Within smallSize (now book)) ⌝ }
-    ensures { λ r. ⌜ Promised wanted (now (schedule .entry)) (now (book .entry)) (now (lent .entry)) (now (lent .exit)) r ⌝ }
+    ensures { λ r. ⌜ Promised wanted (now (schedule .entry)) (now (book .entry)) (now (asked .entry)) (now (lent .entry)) (now (lent .exit)) r ⌝ }
 {
     let mut words = [0u64; SMALL + 1];
     let mut terms = [0u64; SMALL + 1];
@@ -174,14 +197,22 @@ fn small(schedule: &[u8], book: &[u8], c: usize, wanted: Wanted, lent: &mut [u8]
         &mut sets,
         &mut list,
         wanted,
+        asked,
         lent,
     )
 }
 
 // In tables for up to MEDIUM counterparties and four times as many assets and mitigants.
-fn medium(schedule: &[u8], book: &[u8], c: usize, wanted: Wanted, lent: &mut [u8]) -> Answer
+fn medium(
+    schedule: &[u8],
+    book: &[u8],
+    c: usize,
+    wanted: Wanted,
+    asked: &[u8],
+    lent: &mut [u8],
+) -> Answer
     requires { ⌜ (Passed (now schedule) (now book)) × (c ≡ C (now book)) × (Within mediumSize (now book)) ⌝ }
-    ensures { λ r. ⌜ Promised wanted (now (schedule .entry)) (now (book .entry)) (now (lent .entry)) (now (lent .exit)) r ⌝ }
+    ensures { λ r. ⌜ Promised wanted (now (schedule .entry)) (now (book .entry)) (now (asked .entry)) (now (lent .entry)) (now (lent .exit)) r ⌝ }
 {
     let mut words = [0u64; MEDIUM + 1];
     let mut terms = [0u64; MEDIUM + 1];
@@ -222,6 +253,7 @@ fn medium(schedule: &[u8], book: &[u8], c: usize, wanted: Wanted, lent: &mut [u8
         &mut sets,
         &mut list,
         wanted,
+        asked,
         lent,
     )
 }
@@ -241,10 +273,11 @@ fn few(
     places: &mut [u16],
     covered: &mut [u64],
     wanted: Wanted,
+    asked: &[u8],
     lent: &mut [u8],
 ) -> Answer
     requires { ⌜ (Passed (now schedule) (now book)) × (groups ≡ topsTo (now book) (C (now book))) × (Parties (now book) (now words) (now terms) (now rows)) × (Headed (now book) (now heads)) × (Lent (now book) (now starts) (now caps) (now rests) (now places) (now covered)) × (groups ≤ fewGroups) ⌝ }
-    ensures { λ r. ⌜ Promised wanted (now (schedule .entry)) (now (book .entry)) (now (lent .entry)) (now (lent .exit)) r ⌝ }
+    ensures { λ r. ⌜ Promised wanted (now (schedule .entry)) (now (book .entry)) (now (asked .entry)) (now (lent .entry)) (now (lent .exit)) r ⌝ }
 {
     let mut cells = [0u64; COLUMNS * FEW];
     let mut sets = [0u16; FEW];
@@ -266,6 +299,7 @@ fn few(
         &mut sets,
         &mut list,
         wanted,
+        asked,
         lent,
     )
 }
@@ -285,10 +319,11 @@ fn many(
     places: &mut [u16],
     covered: &mut [u64],
     wanted: Wanted,
+    asked: &[u8],
     lent: &mut [u8],
 ) -> Answer
     requires { ⌜ (Passed (now schedule) (now book)) × (groups ≡ topsTo (now book) (C (now book))) × (Parties (now book) (now words) (now terms) (now rows)) × (Headed (now book) (now heads)) × (Lent (now book) (now starts) (now caps) (now rests) (now places) (now covered)) ⌝ }
-    ensures { λ r. ⌜ Promised wanted (now (schedule .entry)) (now (book .entry)) (now (lent .entry)) (now (lent .exit)) r ⌝ }
+    ensures { λ r. ⌜ Promised wanted (now (schedule .entry)) (now (book .entry)) (now (asked .entry)) (now (lent .entry)) (now (lent .exit)) r ⌝ }
 {
     let mut cells = [0u64; COLUMNS * book::MOST_COUNTERPARTIES];
     let mut sets = [0u16; book::MOST_COUNTERPARTIES];
@@ -310,14 +345,22 @@ fn many(
         &mut sets,
         &mut list,
         wanted,
+        asked,
         lent,
     )
 }
 
 // In tables for any book.
-fn large(schedule: &[u8], book: &[u8], c: usize, wanted: Wanted, lent: &mut [u8]) -> Answer
+fn large(
+    schedule: &[u8],
+    book: &[u8],
+    c: usize,
+    wanted: Wanted,
+    asked: &[u8],
+    lent: &mut [u8],
+) -> Answer
     requires { ⌜ (Passed (now schedule) (now book)) × (c ≡ C (now book)) ⌝ }
-    ensures { λ r. ⌜ Promised wanted (now (schedule .entry)) (now (book .entry)) (now (lent .entry)) (now (lent .exit)) r ⌝ }
+    ensures { λ r. ⌜ Promised wanted (now (schedule .entry)) (now (book .entry)) (now (asked .entry)) (now (lent .entry)) (now (lent .exit)) r ⌝ }
 {
     let mut words = [0u64; book::MOST_COUNTERPARTIES + 1];
     let mut terms = [0u64; book::MOST_COUNTERPARTIES + 1];
@@ -353,6 +396,7 @@ fn large(schedule: &[u8], book: &[u8], c: usize, wanted: Wanted, lent: &mut [u8]
             &mut places,
             &mut covered,
             wanted,
+            asked,
             lent,
         );
     }
@@ -370,31 +414,32 @@ fn large(schedule: &[u8], book: &[u8], c: usize, wanted: Wanted, lent: &mut [u8]
         &mut places,
         &mut covered,
         wanted,
+        asked,
         lent,
     )
 }
 
 // What is wanted of a book that refusals 1 to 13 and 17 let pass.
-fn accepted(schedule: &[u8], book: &[u8], wanted: Wanted, lent: &mut [u8]) -> Answer
+fn accepted(schedule: &[u8], book: &[u8], wanted: Wanted, asked: &[u8], lent: &mut [u8]) -> Answer
     requires { ⌜ Passed (now schedule) (now book) ⌝ }
-    ensures { λ r. ⌜ Promised wanted (now (schedule .entry)) (now (book .entry)) (now (lent .entry)) (now (lent .exit)) r ⌝ }
+    ensures { λ r. ⌜ Promised wanted (now (schedule .entry)) (now (book .entry)) (now (asked .entry)) (now (lent .entry)) (now (lent .exit)) r ⌝ }
 {
     let h = book::header_at(book);
     let c = h.counterparties as usize;
     let n = h.assets as usize;
     let k = h.mitigants as usize;
     if (c <= SMALL) & (n <= 4 * SMALL) & (k <= 4 * SMALL) {
-        return small(schedule, book, c, wanted, lent);
+        return small(schedule, book, c, wanted, asked, lent);
     }
     if (c <= MEDIUM) & (n <= 4 * MEDIUM) & (k <= 4 * MEDIUM) {
-        return medium(schedule, book, c, wanted, lent);
+        return medium(schedule, book, c, wanted, asked, lent);
     }
-    large(schedule, book, c, wanted, lent)
+    large(schedule, book, c, wanted, asked, lent)
 }
 
 // All that entries of a schedule and a book have in common: refusals 1 to 15 and 17, the tables in the book's size, and the fund; then what is wanted of it.
-fn open(schedule: &[u8], book: &[u8], wanted: Wanted, lent: &mut [u8]) -> Answer
-    ensures { λ r. ⌜ Promised wanted (now (schedule .entry)) (now (book .entry)) (now (lent .entry)) (now (lent .exit)) r ⌝ }
+fn open(schedule: &[u8], book: &[u8], wanted: Wanted, asked: &[u8], lent: &mut [u8]) -> Answer
+    ensures { λ r. ⌜ Promised wanted (now (schedule .entry)) (now (book .entry)) (now (asked .entry)) (now (lent .entry)) (now (lent .exit)) r ⌝ }
 {
     let rates = schedule::check(schedule);
     match rates {
@@ -403,7 +448,7 @@ fn open(schedule: &[u8], book: &[u8], wanted: Wanted, lent: &mut [u8]) -> Answer
             let records = admit::check(book);
             match records {
                 Checked::Bad(why) => Answer::Refused(why),
-                Checked::Fine => accepted(schedule, book, wanted, lent),
+                Checked::Fine => accepted(schedule, book, wanted, asked, lent),
             }
         }
     }
@@ -413,12 +458,21 @@ fn open(schedule: &[u8], book: &[u8], wanted: Wanted, lent: &mut [u8]) -> Answer
 pub fn report(schedule: &[u8], book: &[u8], report: &mut [u8]) -> Answer
     ensures { λ r. ⌜ Answered (now (schedule .entry)) (now (book .entry)) (now (report .entry)) (now (report .exit)) r ⌝ }
 {
-    open(schedule, book, Wanted::Report, report)
+    let nothing = [0u8; 0];
+    open(schedule, book, Wanted::Report, &nothing, report)
 }
 
 // The desks' bills at a rate, or the first refusal that applies. A refusal changes no byte of the buffer, bills only their own length.
 pub fn bills(schedule: &[u8], book: &[u8], rate: u64, bills: &mut [u8]) -> Answer
     ensures { λ r. ⌜ Billed (now (schedule .entry)) (now (book .entry)) rate (now (bills .entry)) (now (bills .exit)) r ⌝ }
 {
-    open(schedule, book, Wanted::Bills(rate), bills)
+    let nothing = [0u8; 0];
+    open(schedule, book, Wanted::Bills(rate), &nothing, bills)
+}
+
+// How much more may be bought, question by question, or the first refusal that applies. A refusal changes no byte of the buffer, answers only their own length.
+pub fn headroom(schedule: &[u8], book: &[u8], questions: &[u8], answers: &mut [u8]) -> Answer
+    ensures { λ r. ⌜ Asked (now (schedule .entry)) (now (book .entry)) (now (questions .entry)) (now (answers .entry)) (now (answers .exit)) r ⌝ }
+{
+    open(schedule, book, Wanted::Headroom, questions, answers)
 }

@@ -4,7 +4,7 @@ ghost use Prim.Native.Nat.{_<_, _≤_};
 ghost use Rattle.refusal.specs.Refusals.{numberOf, placeOf};
 ghost use Rattle.refusal.specs.Chain.{refuse_unless_, _andThen_};
 
-// The refusals in the order of their numbers, 1 to 19. Those of a record carry its place, from 1.
+// The refusals in the order of their numbers, 1 to 21. Those of a record carry its place, from 1.
 pub enum Refusal {
     ScheduleLength,
     ScheduleMark,
@@ -25,6 +25,8 @@ pub enum Refusal {
     SpecialistEntry(u16),
     ManyMitigants(u16),
     CostRate,
+    Questions,
+    AnswersShort,
 }
 
 // What a section of checks finds.
@@ -41,7 +43,7 @@ pub enum Answer {
 
 // The refusal's number.
 pub fn number(why: Refusal) -> u64
-    ensures { λ r. ⌜ (r ≡ numberOf why) × (r ≤ 19) ⌝ }
+    ensures { λ r. ⌜ (r ≡ numberOf why) × (r ≤ 21) ⌝ }
 {
     match why {
         Refusal::ScheduleLength => 1,
@@ -63,6 +65,8 @@ pub fn number(why: Refusal) -> u64
         Refusal::SpecialistEntry(_) => 17,
         Refusal::ManyMitigants(_) => 18,
         Refusal::CostRate => 19,
+        Refusal::Questions => 20,
+        Refusal::AnswersShort => 21,
     }
 }
 
@@ -90,6 +94,8 @@ pub fn place(why: Refusal) -> u64
         Refusal::SpecialistEntry(p) => p as u64,
         Refusal::ManyMitigants(p) => p as u64,
         Refusal::CostRate => 0,
+        Refusal::Questions => 0,
+        Refusal::AnswersShort => 0,
     }
 }
 

@@ -1,4 +1,4 @@
--- The answer, section by section of the checks: what is refused changes no byte.
+-- The answer: what is refused changes no byte; 16, and what passes all checks.
 use mathlib.Core.List.{List}
 use mathlib.Core.Path.{_≡_, refl}
 use Prim.Native.Nat.{ℕ, _≤_, _<_}
@@ -8,36 +8,21 @@ use Rattle.refusal.specs.declared.Checked.the-variants.{Fine, Bad}
 use Rattle.refusal.specs.declared.Answer.the-variants.{Written, Refused}
 use Rattle.refusal.specs.declared.Refusal.{Refusal}
 use Rattle.refusal.specs.declared.Refusal.the-variants.{BufferShort}
-use Rattle.schedule.specs.Check.{scheduleCheck}
 use Rattle.book.specs.Book.{bookOf}
-use Rattle.book.specs.Check.{bookCheck}
 use Rattle.exposure.specs.Values.{fundCheck}
 use Rattle.report.specs.Answer.{reportOf, checkOf, answerOf, Answered}
 use Rattle.fund.specs.Fund.{Passed}
 
 module _ (schedule book before : List ℕ) where
-  refused : {why : Refusal} → checkOf schedule book (length before) ≡ Bad why → Answered schedule book before before (Refused why)
+  pub refused : {why : Refusal} → checkOf schedule book (length before) ≡ Bad why → Answered schedule book before before (Refused why)
   unfolding answerOf
   refused e = record { answer = rw e refl; bytes = refl; cuts = tt }
 
-  pub bad-schedule : {why : Refusal} → scheduleCheck schedule ≡ Bad why → Answered schedule book before before (Refused why)
-  unfolding checkOf
-  bad-schedule e = refused (rw e refl)
-
-  pub bad-book : {why : Refusal} → scheduleCheck schedule ≡ Fine → bookCheck book ≡ Bad why → Answered schedule book before before (Refused why)
-  unfolding checkOf
-  bad-book e f = refused (rw (e, f) refl)
-
-  module _ (p : Passed schedule book) where
-    pub bad-fund : {why : Refusal} → fundCheck (bookOf book) ≡ Bad why → Answered schedule book before before (Refused why)
+  module _ (p : Passed schedule book) (f : fundCheck (bookOf book) ≡ Fine) where
+    pub short : length before < length (reportOf schedule book) → Answered schedule book before before (Refused BufferShort)
     unfolding checkOf
-    bad-fund f = refused (rw (p .of-schedule, p .of-book, f) refl)
+    short l = refused (rw (p .of-schedule, p .of-book, f, lt-leb (length (reportOf schedule book)) (length before) l) refl)
 
-    module _ (f : fundCheck (bookOf book) ≡ Fine) where
-      pub short : length before < length (reportOf schedule book) → Answered schedule book before before (Refused BufferShort)
-      unfolding checkOf
-      short l = refused (rw (p .of-schedule, p .of-book, f, lt-leb (length (reportOf schedule book)) (length before) l) refl)
-
-      pub fine : length (reportOf schedule book) ≤ length before → Written (length (reportOf schedule book)) ≡ answerOf schedule book (length before)
-      unfolding checkOf answerOf
-      fine l = rw (p .of-schedule, p .of-book, f, le-leb (length (reportOf schedule book)) (length before) l) refl
+    pub fine : length (reportOf schedule book) ≤ length before → Written (length (reportOf schedule book)) ≡ answerOf schedule book (length before)
+    unfolding checkOf answerOf
+    fine l = rw (p .of-schedule, p .of-book, f, le-leb (length (reportOf schedule book)) (length before) l) refl

@@ -45,7 +45,7 @@ use Rattle.report.specs.Answer.{fundIn, reportOf, Answered}
 use Rattle.report.specs.Tables.{Headed, Room}
 use Rattle.report.proofs.Chain.{fine}
 
-ordered : (schedule book : List ℕ) → Ordered (fundIn schedule book .order) (fundIn schedule book .limit)
+pub ordered : (schedule book : List ℕ) → Ordered (fundIn schedule book .order) (fundIn schedule book .limit)
 unfolding fundIn fundOf
 ordered schedule book = byLimit-ordered (limit (scheduleOf schedule) (bookOf book))
 

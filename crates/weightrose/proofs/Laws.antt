@@ -1,7 +1,7 @@
 -- The exported promises from those of the functions behind them.
 use mathlib.Core.List.{List, _++_}
 use mathlib.Core.Path.{_≡_, refl, ap, _∙_}
-use Prim.Native.Nat.{ℕ, _+_, _≤_, _<_}
+use Prim.Native.Nat.{ℕ, _+_, _*_, _≤_, _<_}
 use native.Mathlib.Omega.{arith}
 use lib.ListN.{length, drop}
 use borrow.Author.Tests.{le-leb, lt-leb}
@@ -11,10 +11,11 @@ use Rattle.refusal.specs.declared.Answer.{Answer}
 use Rattle.refusal.specs.declared.Checked.{Checked}
 use Rattle.refusal.specs.declared.Checked.the-variants.{Fine, Bad}
 use Rattle.refusal.specs.declared.Refusal.{Refusal}
-use Rattle.refusal.specs.declared.Refusal.the-variants.{ScheduleLength, ScheduleMark, ScheduleVersion, ScheduleRates, BookLength, BookMark, BookVersion, BookCounts, BookAmounts, Counterparty, Asset, Mitigant, MitigantCounts, ReinsuranceValues, StressedAssets, BufferShort, SpecialistEntry, ManyMitigants, CostRate}
+use Rattle.refusal.specs.declared.Refusal.the-variants.{ScheduleLength, ScheduleMark, ScheduleVersion, ScheduleRates, BookLength, BookMark, BookVersion, BookCounts, BookAmounts, Counterparty, Asset, Mitigant, MitigantCounts, ReinsuranceValues, StressedAssets, BufferShort, SpecialistEntry, ManyMitigants, CostRate, Questions, AnswersShort}
 use Rattle.refusal.specs.Refusals.{numberOf}
 use Rattle.refusal.specs.Chain.{refuse_unless_, _andThen_, answerBy}
-use Rattle.refusal.specs.Laws.{then-first, then-rest}
+use Rattle.refusal.specs.Laws.{then-first, then-rest, unless-fine}
+use Rattle.book.specs.Records.{C}
 use Rattle.book.specs.Book.{bookOf}
 use Rattle.book.specs.Check.{bookCheck}
 use Rattle.book.specs.AcceptedLaws.{accepted}
@@ -27,8 +28,11 @@ use Rattle.report.specs.Answer.{reportOf, checkOf, answerOf, writtenBy, Answere
 use Rattle.convert.specs.Convert.{bookConverts, convertAnswer, Converts}
 use Rattle.bills.specs.Bills.{billsSize}
 use Rattle.billing.specs.Billed.{billsOf, billCheck, billAnswer, Billed}
+use Rattle.questions.specs.Questions.{answerSize, countOf, goodList}
+use Rattle.questions.specs.Headroom.{answersOf, headroomCheck, headroomAnswer, Asked}
+use Rattle.questions.proofs.Listed.{listed}
 use Rattle.weightrose.specs.Most.{report-most}
-use Rattle.weightrose.specs.Exported.{packed, Apart, Reported, Converted, BillsWritten, Published}
+use Rattle.weightrose.specs.Exported.{packed, Apart, Reported, Converted, BillsWritten, Answers, Published}
 
 -- no refusal has the number 0
 numbered : (why : Refusal) → 1 ≤ numberOf why
@@ -51,6 +55,8 @@ numbered BufferShort = omega arith
 numbered (SpecialistEntry p) = omega arith
 numbered (ManyMitigants p) = omega arith
 numbered CostRate = omega arith
+numbered Questions = omega arith
+numbered AnswersShort = omega arith
 
 -- a report of a book that the checks let pass has at most 2,400 lines
 few : (schedule book : List ℕ) → bookCheck book ≡ Fine → length (reportOf schedule book) < 4294967296
@@ -117,6 +123,36 @@ bills-written schedule book rate before after a r w e =
       apart = rw (e ∙ ap packed (w .answer)) (bills-apart schedule book rate (length before));
       bytes = w .bytes ∙ ap (λ (x : Answer). writtenBy x (billsOf schedule book rate) before) (w .answer);
       sums = rw (w .answer) at (w .sums);
+    }
+
+-- answers are of at most 1,600 bytes
+answers-apart : (schedule book questions : List ℕ) (n : ℕ) → Apart (headroomAnswer schedule book questions n) (packed (headroomAnswer schedule book questions n))
+unfolding headroomAnswer headroomCheck
+answers-apart schedule book questions n = by (headroomCheck schedule book questions n) refl
+  where
+    lists : Checked
+    lists = refuse Questions unless goodList (C book) questions
+
+    last : Checked
+    last = refuse AnswersShort unless answerSize * countOf questions ≤? n
+
+    by : (k : Checked) → headroomCheck schedule book questions n ≡ k → Apart (answerBy k (answerSize * countOf questions)) (packed (answerBy k (answerSize * countOf questions)))
+    by Fine e =
+        let good =
+        then-first lists last
+        (then-rest (fundCheck (bookOf book)) (lists andThen last)
+        (then-rest (bookCheck book) (fundCheck (bookOf book) andThen lists andThen last)
+        (then-rest (scheduleCheck schedule) (bookCheck book andThen fundCheck (bookOf book) andThen lists andThen last) e))) in
+        omega (arith, listed (C book) questions (unless-fine Questions (goodList (C book) questions) good) .few)
+    by (Bad why) e = omega (arith, numbered why)
+
+pub answered : (schedule book questions before after : List ℕ) (a : Answer) (r : ℕ) → Asked schedule book questions before after a → r ≡ packed a → Answers schedule book questions before after r
+answered schedule book questions before after a r w e =
+    record {
+      answer = e ∙ ap packed (w .answer);
+      apart = rw (e ∙ ap packed (w .answer)) (answers-apart schedule book questions (length before));
+      bytes = w .bytes ∙ ap (λ (x : Answer). writtenBy x (answersOf schedule book questions) before) (w .answer);
+      right = rw (w .answer) at (w .right);
     }
 
 pub too-short : (before : List ℕ) → length before < scheduleSize → Published before before 0

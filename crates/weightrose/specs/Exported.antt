@@ -4,6 +4,7 @@
 --   Reported       of weightrose_report
 --   Converted      of weightrose_convert
 --   BillsWritten   of weightrose_bills
+--   Answers        of weightrose_headroom
 --   Published      of weightrose_published
 use mathlib.Core.List.{List, _++_}
 use mathlib.Core.Path.{_≡_}
@@ -18,6 +19,7 @@ use Rattle.conversion.specs.Conversion.{converted}
 use Rattle.convert.specs.Convert.{convertAnswer, KeptBy}
 use Rattle.report.specs.Answer.{fundIn, reportOf, answerOf, writtenBy, CutsOf}
 use Rattle.billing.specs.Billed.{billsOf, billAnswer, AddUpBy}
+use Rattle.questions.specs.Headroom.{answersOf, headroomAnswer, RightBy}
 
 -- "A refusal is a number and a place": the number in the high 32 bits, the place in the low ones; else the length written
 abbrev pub packed : Answer → ℕ
@@ -49,6 +51,13 @@ pub record BillsWritten (schedule book : List ℕ) (rate : ℕ) (before after : 
   pub apart : Apart (billAnswer schedule book rate (length before)) r
   pub bytes : after ≡ writtenBy (billAnswer schedule book rate (length before)) (billsOf schedule book rate) before
   pub sums : AddUpBy (billAnswer schedule book rate (length before)) schedule book rate after
+
+-- C-16: the number r, and the lent bytes `before` and `after`; each answer is the greatest amount, and the same when sent singly, by the last part
+pub record Answers (schedule book questions before after : List ℕ) (r : ℕ) : Type 0 where
+  pub answer : r ≡ packed (headroomAnswer schedule book questions (length before))
+  pub apart : Apart (headroomAnswer schedule book questions (length before)) r
+  pub bytes : after ≡ writtenBy (headroomAnswer schedule book questions (length before)) (answersOf schedule book questions) before
+  pub right : RightBy (headroomAnswer schedule book questions (length before)) schedule book questions after
 
 -- "The published schedule (A1 to A3) is a constant of the product": its bytes where they fit
 pub record Published (before after : List ℕ) (r : ℕ) : Type 0 where

@@ -1,5 +1,5 @@
 -- C-15: a schedule of version 1, and the schedule of version 2 that has ten times its rates, get the same answers and the same bytes, whatever the book and
--- the buffer: same-answer, same-report, same-bill-answer, same-bills.
+-- the buffer: same-answer, same-report, same-bill-answer, same-bills, same-headroom, same-answers.
 use mathlib.Core.List.{List}
 use mathlib.Core.Path.{_≡_, refl, ap}
 use Prim.Native.Nat.{ℕ}
@@ -8,6 +8,7 @@ use Rattle.bills.specs.Bills.{deskExcess, billBytes}
 use Rattle.schedule.specs.CountLaws.{Tenfold, tenfold-counts, tenfold-check}
 use Rattle.report.specs.Answer.{fundIn, reportOf, checkOf, answerOf}
 use Rattle.billing.specs.Billed.{linesOf, excessIn, billsOf, billCheck, billAnswer}
+use Rattle.questions.specs.Headroom.{answerTo, answersOf, headroomCheck, headroomAnswer}
 
 module _ {s s′ : List ℕ} (t : Tenfold s s′) (book : List ℕ) where
   same-fund : fundIn s′ book ≡ fundIn s book
@@ -29,3 +30,11 @@ module _ {s s′ : List ℕ} (t : Tenfold s s′) (book : List ℕ) where
   pub same-bill-answer : (rate buffer : ℕ) → billAnswer s′ book rate buffer ≡ billAnswer s book rate buffer
   unfolding billAnswer billCheck
   same-bill-answer rate buffer = rw (tenfold-check t) refl
+
+  pub same-answers : (questions : List ℕ) → answersOf s′ book questions ≡ answersOf s book questions
+  unfolding answersOf answerTo
+  same-answers questions = rw same-fund refl
+
+  pub same-headroom : (questions : List ℕ) (buffer : ℕ) → headroomAnswer s′ book questions buffer ≡ headroomAnswer s book questions buffer
+  unfolding headroomAnswer headroomCheck
+  same-headroom questions buffer = rw (tenfold-check t) refl

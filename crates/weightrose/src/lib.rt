@@ -3,7 +3,7 @@ use refusal::Answer;
 ghost use mathlib.Core.Path.{_≡_};
 ghost use Prim.Native.Nat.{_+_, _*_, _<_};
 ghost use lib.ListN.{length};
-ghost use Rattle.weightrose.specs.Exported.{packed, Reported, Converted, BillsWritten, Published};
+ghost use Rattle.weightrose.specs.Exported.{packed, Reported, Converted, BillsWritten, Answers, Published};
 
 // An answer as one number: a refusal's number above its place, or the length written.
 fn pack(answer: Answer) -> u64
@@ -37,6 +37,19 @@ pub extern "C" fn weightrose_bills(schedule: &[u8], book: &[u8], rate: u64, bill
     ensures { λ r. ⌜ BillsWritten (now (schedule .entry)) (now (book .entry)) rate (now (bills .entry)) (now (bills .exit)) r ⌝ }
 {
     pack(entries::bills(schedule, book, rate, bills))
+}
+
+// How much more may be bought, question by question, into the lent bytes.
+#[no_mangle]
+pub extern "C" fn weightrose_headroom(
+    schedule: &[u8],
+    book: &[u8],
+    questions: &[u8],
+    answers: &mut [u8],
+) -> u64
+    ensures { λ r. ⌜ Answers (now (schedule .entry)) (now (book .entry)) (now (questions .entry)) (now (answers .entry)) (now (answers .exit)) r ⌝ }
+{
+    pack(entries::headroom(schedule, book, questions, answers))
 }
 
 // The published schedule's bytes, into the lent bytes, and how many they are; 0 and no byte changed where fewer are lent.

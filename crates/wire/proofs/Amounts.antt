@@ -1,11 +1,11 @@
--- Amounts one behind the other in a longer list: amounts-none, amounts-placed say how a loop places them, amounts-in what is read of them.
-use mathlib.Core.Path.{_≡_, sym, ap, _∙_}
+-- Amounts one behind the other in a longer list: amounts-none, amounts-placed say how a loop places them, amounts-in and amounts-at what is read of them.
+use mathlib.Core.Path.{_≡_, refl, sym, ap, _∙_}
 use mathlib.Core.List.{List, [], _∷_, _++_, append-assoc}
 use Prim.Native.Nat.{ℕ, zero, suc, _+_, _*_, _≤_, _<_}
 use native.Mathlib.Nat.{add-zero}
 use native.Mathlib.Omega.{arith}
-use lib.ListN.{length, getD, take, length-append}
-use lib.Seq.{length-take-le, sets-eq}
+use lib.ListN.{length, getD, take, drop, length-append}
+use lib.Seq.{length-take-le, sets-eq, drop-append-add}
 use Rattle.words.specs.Words.{eachOf}
 use Rattle.wire.specs.Bytes.{placed, u64At, bytes64}
 use Rattle.wire.specs.Amounts.{amountsBytes, amounts-length, amounts-next}
@@ -34,3 +34,12 @@ amounts-in (x ∷ xs) a b at (suc k) e h =
     let p : at + 8 * suc k ≡ at + 8 + 8 * k = omega arith in
     rw (← append-assoc a (bytes64 x) (eachOf bytes64 xs), p)
     (amounts-in xs (a ++ bytes64 x) b (at + 8) k (omega (arith, length-append a (bytes64 x))) (omega arith))
+
+-- the bytes of one
+pub amounts-at : (xs b : List ℕ) (k : ℕ) → k < length xs → take 8 (drop (8 * k) (amountsBytes xs ++ b)) ≡ bytes64 (getD xs k 0)
+unfolding amountsBytes eachOf
+amounts-at [] b k h = absurd (omega arith)
+amounts-at (x ∷ xs) b zero h = refl
+amounts-at (x ∷ xs) b (suc k) h =
+    let p : 8 * suc k ≡ 8 + 8 * k = omega arith in
+    ap (λ (n : ℕ). take 8 (drop n (amountsBytes (x ∷ xs) ++ b))) p ∙ ap (take 8) (drop-append-add (bytes64 x) (amountsBytes xs ++ b) (8 * k)) ∙ amounts-at xs b k (omega arith)

@@ -1,6 +1,6 @@
 //! Times the library beside the second implementation and, where the build was given one, a
 //! yardstick, on four books; then the library alone: on the same books as version 2, its converter,
-//! its bills, and how its time grows with the book.
+//! its bills, its answers to dealers, and how its time grows with the book.
 //!
 //! Rounds of about a millisecond are taken in turn (the slow second implementation in every tenth
 //! alone), and each subject's best round counts. A call is a whole one: checks, report and all.
@@ -9,10 +9,12 @@
 
 use std::hint::black_box;
 use std::time::{Duration, Instant};
-use weightrose_tests::inputs::{at_desks, lifelike, Parents, Shape};
+use weightrose_tests::inputs::{at_desks, lifelike, Parents, Shape, KINDS};
 use weightrose_tests::random::Random;
+use weightrose_tests::raw::RawQuestion;
 use weightrose_tests::weightrose::{
-    bill, packed_bills, packed_convert, packed_report, published, Answer, BILLS, LARGEST_REPORT,
+    amount, bill, packed_bills, packed_convert, packed_headroom, packed_report, published, Answer,
+    ANSWER, BILLS, LARGEST_REPORT, MOST_QUESTIONS, QUESTION,
 };
 #[cfg(yardstick)]
 use weightrose_tests::yardstick;
@@ -226,6 +228,82 @@ fn bills() {
     }
 }
 
+/// As many questions of any kind as may be sent, about any counterparties.
+fn list(counterparties: u64) -> Vec<u8> {
+    let random = &mut Random::new(117, counterparties);
+    let question = |_| RawQuestion {
+        counterparty: random.between(1, counterparties) as u16,
+        kind: random.pick(&KINDS),
+    };
+    RawQuestion::list(&(0..MOST_QUESTIONS).map(question).collect::<Vec<_>>())
+}
+
+/// How many questions have room, on average. The library and the second implementation must agree
+/// on the answers of each book.
+fn with_room(name: &str, books: &[Vec<u8>]) -> usize {
+    let answered = |book: &Vec<u8>| {
+        let (list, book) = behind_list(book);
+        let [mut answers, mut same] = [[0xa5; ANSWER * MOST_QUESTIONS]; 2];
+        let length = packed_headroom(&published(), book, list, &mut answers);
+        assert_eq!(length, answers.len() as u64, "{name}");
+        second::headroom(&published(), book, list, &mut same);
+        assert!(answers == same, "{name}: the answers differ");
+        (0..MOST_QUESTIONS).filter(|&number| amount(&answers, number) > 0).count()
+    };
+    books.iter().map(answered).sum::<usize>() / books.len()
+}
+
+/// A list of questions, and the book behind it.
+fn behind_list(bytes: &[u8]) -> (&[u8], &[u8]) {
+    bytes.split_at(QUESTION * MOST_QUESTIONS)
+}
+
+/// The answers to a list of 200, of 1 and of no questions, as multiples of the report's time on the
+/// same books.
+fn answers() {
+    let report: Report = |schedule, bytes, buffer| {
+        let (_, book) = behind_list(bytes);
+        packed_report(schedule, book, buffer)
+    };
+    fn headroom<const N: usize>(schedule: &[u8], bytes: &[u8], buffer: &mut [u8]) -> u64 {
+        let (list, book) = behind_list(bytes);
+        packed_headroom(schedule, book, &list[..QUESTION * N], buffer)
+    }
+    println!("\nThe library's answers to dealers:\n");
+    let head = [
+        "book",
+        "questions with room, of 200",
+        "report, µs",
+        "200 answers, µs",
+        "200 answers / report",
+        "1 answer / report",
+        "no answers / report",
+    ];
+    print_row(&head.map(str::to_string));
+    print_row(&head.map(|_| "---".to_string()));
+    for Case { name, shape } in cases() {
+        let list = list(shape.counterparties);
+        let books: Vec<Vec<u8>> =
+            books(&shape).iter().map(|book| [&list[..], book].concat()).collect();
+        let rooms = with_room(name, &books);
+        let [reported, all, one, none] = best_of([
+            (report, &books),
+            (headroom::<MOST_QUESTIONS>, &books),
+            (headroom::<1>, &books),
+            (headroom::<0>, &books),
+        ]);
+        print_row(&[
+            name.to_string(),
+            rooms.to_string(),
+            format!("{:.2}", reported / 1_000.0),
+            format!("{:.2}", all / 1_000.0),
+            format!("{:.3}", all / reported),
+            format!("{:.3}", one / reported),
+            format!("{:.3}", none / reported),
+        ]);
+    }
+}
+
 /// Nanoseconds of a call of each function on its books: the best of interleaved rounds.
 fn best_of<const N: usize>(calls: [(Report, &Vec<Vec<u8>>); N]) -> [f64; N] {
     let mut buffer = vec![0; LARGEST_REPORT];
@@ -267,5 +345,6 @@ fn main() {
     compare_subjects(&subjects);
     versions_and_converter();
     bills();
+    answers();
     growth(&subjects[..1]);
 }

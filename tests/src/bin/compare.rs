@@ -1,37 +1,46 @@
 //! Compares the library with the second implementation and prints what it met: the reports; the
-//! converters, whose books must get the same report before and behind; and the bills, which must
-//! add up to the cost of the report's charge.
+//! converters, whose books must get the same report before and behind; the bills, which must add up
+//! to the cost of the report's charge; and the answers to lists of questions, which each question
+//! must get when sent singly, and which must hold of the reports of books with so much more.
 //!
 //!     compare [--inputs N] [--seed S]            N inputs (80,000 unless said) under the seed S, a
-//!                                                fifth as many of the converter, and a quarter of
-//!                                                the bills
+//!                                                fifth as many of the converter, and a quarter
+//!                                                each of the bills and of the questions
 //!     compare --only I [--seed S] [--dump FILE]  input I alone; FILE gets its schedule and book
 //!     compare --conversion I [--seed S] ..       the same of the converter's inputs
 //!     compare --billing I [--seed S] ..          the same of the bills' inputs
+//!     compare --asking I [--seed S] ..           the same of the questions' inputs
 //!     compare --against yardstick ..             with the static library that the build was given,
-//!                                                reports alone
+//!                                                reports alone, and the questions' answers where
+//!                                                that library has them
 //!     compare --without-version V ..             leaving out books whose byte 4 is V
 //!     compare --without-schedule-version V ..    leaving out schedules whose byte 4 is V
 //!
 //! Ends with status 1 on the first difference, or where a refusal or a tier was not met at all,
-//! also under schedules of version 2 alone unless these are left out, or no more than half of the
-//! bills were of excesses at several desks.
+//! also under schedules of version 2 alone unless these are left out, no more than half of the bills
+//! were of excesses at several desks, or a sort of question or answer was not met.
 
 use std::process::ExitCode;
 use std::time::Instant;
 use weightrose_tests::compare::{
-    adds_up, compare, compare_bills, keeps, library, library_bills, library_convert, second,
-    second_bills, second_convert, Difference, Lent, Outcome, GUARD,
+    adds_up, as_singly, compare, compare_bills, compare_headroom, keeps, library, library_bills,
+    library_convert, library_headroom, may_be_bought, second, second_bills, second_convert,
+    second_headroom, Difference, Lent, Outcome, GUARD,
 };
-use weightrose_tests::inputs::{Billing, Billings, Conversions, Input, Inputs};
-use weightrose_tests::second::served_of;
-use weightrose_tests::weightrose::{Answer, HEADER, LINE};
+use weightrose_tests::inputs::{Asking, Askings, Billing, Billings, Conversions, Input, Inputs};
+use weightrose_tests::raw::MOST;
+use weightrose_tests::second::{met_of, served_of};
+use weightrose_tests::weightrose::{amount, Answer, HEADER, LINE, MOST_QUESTIONS};
 
-const REFUSALS: usize = 19;
-/// The refusals that a report has, those that a conversion has, and those that bills have.
+const REFUSALS: usize = 21;
+/// The refusals that a report has, those that a conversion has, those that bills have, and those
+/// that a list of questions has.
 const OF_REPORT: &[usize] = &[1, 2, 3, 4, 5, 6, 7, 8, 9, 10, 11, 12, 13, 14, 15, 16, 17];
 const OF_CONVERSION: &[usize] = &[5, 6, 7, 8, 9, 10, 11, 12, 13, 14, 15, 16, 17, 18];
 const OF_BILLS: &[usize] = &[1, 2, 3, 4, 5, 6, 7, 8, 9, 10, 11, 12, 13, 14, 15, 16, 17, 19];
+const OF_HEADROOM: &[usize] = &[1, 2, 3, 4, 5, 6, 7, 8, 9, 10, 11, 12, 13, 14, 15, 17, 20, 21];
+/// The tiers that a question can be about.
+const TIERS_ASKED: [usize; 5] = [0, 2, 10, 11, 12];
 /// The refusal of a rate: the first that a schedule of a known version can have.
 const RATES: usize = 4;
 const TIERS: usize = 16;
@@ -60,19 +69,32 @@ struct Options {
     only: Option<usize>,
     conversion: Option<usize>,
     billing: Option<usize>,
+    asking: Option<usize>,
     without_version: Option<u8>,
     without_schedule_version: Option<u8>,
     dump: Option<String>,
     against: Other,
 }
 
+type Headroom = fn(&[u8], &[u8], &[u8], &mut Lent) -> u64;
+
 /// What the library is compared with.
 struct Other {
     name: &'static str,
     subject: fn(&[u8], &[u8], &mut Lent) -> u64,
+    /// None where it answers no questions.
+    headroom: Option<Headroom>,
 }
 
-const SECOND: Other = Other { name: "second implementation", subject: second };
+const SECOND: Other =
+    Other { name: "second implementation", subject: second, headroom: Some(second_headroom) };
+
+#[cfg(yardstick_headroom)]
+const YARDSTICK_HEADROOM: Option<Headroom> = Some(|schedule, book, questions, lent| {
+    weightrose_tests::yardstick::headroom(schedule, book, questions, lent.buffer())
+});
+#[cfg(all(yardstick, not(yardstick_headroom)))]
+const YARDSTICK_HEADROOM: Option<Headroom> = None;
 
 fn other(name: &str) -> Result<Other, String> {
     match name {
@@ -83,6 +105,7 @@ fn other(name: &str) -> Result<Other, String> {
             subject: |schedule, book, lent| {
                 weightrose_tests::yardstick::report(schedule, book, lent.buffer())
             },
+            headroom: YARDSTICK_HEADROOM,
         }),
         _ => Err(format!("nothing that is called {name} was linked")),
     }
@@ -95,6 +118,7 @@ fn options() -> Result<Options, String> {
         only: None,
         conversion: None,
         billing: None,
+        asking: None,
         without_version: None,
         without_schedule_version: None,
         dump: None,
@@ -110,6 +134,7 @@ fn options() -> Result<Options, String> {
             "--only" => options.only = Some(number()? as usize),
             "--conversion" => options.conversion = Some(number()? as usize),
             "--billing" => options.billing = Some(number()? as usize),
+            "--asking" => options.asking = Some(number()? as usize),
             "--without-version" => options.without_version = Some(number()? as u8),
             "--without-schedule-version" => {
                 options.without_schedule_version = Some(number()? as u8);
@@ -259,6 +284,88 @@ impl MetBills {
     }
 }
 
+/// What the questions of accepted lists met, and how many questions that is.
+#[derive(Default)]
+struct MetQuestions {
+    questions: u64,
+    tiers: [u64; TIERS],
+    without_limit: u64,
+    nothing: u64,
+    some: u64,
+    most: u64,
+    of_children: u64,
+    new_tiers: u64,
+    beside_an_excess: u64,
+    held_by_a_higher_tier: u64,
+    tried: u64,
+    empty_lists: u64,
+    longest_lists: u64,
+}
+
+impl MetQuestions {
+    fn count(&mut self, asking: &Asking, answers: &[u8], tried: usize) {
+        let Asking { input, questions } = asking;
+        let met = met_of(&input.schedule, &input.book, questions).expect("an accepted list");
+        self.empty_lists += u64::from(met.is_empty());
+        self.longest_lists += u64::from(met.len() == MOST_QUESTIONS);
+        self.tried += tried as u64;
+        for (number, question) in met.iter().enumerate() {
+            let answer = amount(answers, number);
+            self.questions += 1;
+            match answer {
+                0 => self.nothing += 1,
+                MOST => self.most += 1,
+                _ => self.some += 1,
+            }
+            self.of_children += u64::from(question.of_child);
+            let Some(tier) = question.tier else {
+                self.without_limit += 1;
+                continue;
+            };
+            let higher = i128::from(answer) < question.own_room.min(i128::from(MOST));
+            self.tiers[usize::from(tier)] += 1;
+            self.new_tiers += u64::from(!question.has_line);
+            self.beside_an_excess += u64::from(question.has_excess && answer > 0);
+            self.held_by_a_higher_tier += u64::from(higher);
+        }
+    }
+
+    /// Each figure with its name, but those of the tiers.
+    fn figures(&self) -> [(&'static str, u64); 11] {
+        [
+            ("without limit", self.without_limit),
+            ("answered 0", self.nothing),
+            ("answered M", self.most),
+            ("answered something between", self.some),
+            ("of a counterparty with a parent", self.of_children),
+            ("of a tier that the group has not", self.new_tiers),
+            ("with room beside an excess", self.beside_an_excess),
+            ("with less room at a higher tier", self.held_by_a_higher_tier),
+            ("bought, and a cent more", self.tried),
+            ("lists of 200", self.longest_lists),
+            ("empty lists", self.empty_lists),
+        ]
+    }
+
+    fn print(&self) {
+        println!("questions                          {:9}", self.questions);
+        for tier in TIERS_ASKED {
+            let name = format!("of tier {tier}, {}", TIER_NAMES[tier]);
+            println!("  {name:32} {:9}", self.tiers[tier]);
+        }
+        for (name, count) in self.figures() {
+            println!("  {name:32} {count:9}");
+        }
+    }
+
+    fn met(&self) -> bool {
+        let of_tiers: u64 = TIERS_ASKED.iter().map(|&tier| self.tiers[tier]).sum();
+        of_tiers + self.without_limit == self.questions
+            && TIERS_ASKED.iter().all(|&tier| self.tiers[tier] > 0)
+            && self.figures().iter().all(|&(_, count)| count > 0)
+    }
+}
+
 /// One comparison of an input, which is named where the two differ.
 fn compare_one(
     options: &Options,
@@ -386,9 +493,51 @@ fn bills(options: &Options) -> Result<(), String> {
     Ok(())
 }
 
+fn questions(options: &Options, other: Headroom) -> Result<(), String> {
+    let start = Instant::now();
+    let inputs = Askings::new(options.seed);
+    let (mut met, mut met_questions) = (Met::default(), MetQuestions::default());
+    let numbers = numbers(options.asking, options.inputs / 4);
+    let count = numbers.len();
+    for number in numbers {
+        let asking = inputs.get(number);
+        let Asking { input, questions } = &asking;
+        if options.leaves_out(input) {
+            continue;
+        }
+        let both = || compare_headroom(&library_headroom, &other, &asking);
+        let outcome = compare_one(options, "--asking", number, input, both)
+            .map_err(|what| format!("{what}, questions {questions:?}"))?;
+        if let Some(Answer::Written(length)) = Answer::unpacked(outcome.answer) {
+            let answers = &outcome.area[GUARD..GUARD + length];
+            let tried = as_singly(&asking, answers)
+                .and_then(|()| may_be_bought(&asking, answers))
+                .map_err(|what| named(options, "--asking", number, input, &what))?;
+            met_questions.count(&asking, answers, tried);
+        }
+        met.count(input, &outcome);
+    }
+    met.print("answered", OF_HEADROOM);
+    met_questions.print();
+    let under_both =
+        options.without_schedule_version == Some(2) || met.refusals_met_under_both(OF_HEADROOM);
+    let all_met = met.refusals_met(OF_HEADROOM) && under_both && met_questions.met();
+    if options.asking.is_none() && !all_met {
+        return Err("a refusal of the questions or a sort of them was not met".to_string());
+    }
+    let which = match count as u64 - met.inputs.all {
+        0 => format!("the first {} fixed", inputs.fixed()),
+        left_out => format!("{left_out} left out"),
+    };
+    let seconds = start.elapsed().as_secs_f64();
+    let compared = met.inputs.all;
+    println!("answers compared on {compared} inputs, {which}: no difference, {seconds:.1} s");
+    Ok(())
+}
+
 fn run(options: &Options) -> Result<(), String> {
     println!("library and {}, seed {}", options.against.name, options.seed);
-    let one = [options.only, options.conversion, options.billing];
+    let one = [options.only, options.conversion, options.billing, options.asking];
     let asked = |entry: usize| one[entry].is_some() || one.iter().all(Option::is_none);
     if asked(0) {
         reports(options)?;
@@ -399,6 +548,12 @@ fn run(options: &Options) -> Result<(), String> {
         }
         if asked(2) {
             bills(options)?;
+        }
+    }
+    if asked(3) {
+        match options.against.headroom {
+            Some(headroom) => questions(options, headroom)?,
+            None => println!("{} answers no questions", options.against.name),
         }
     }
     Ok(())

@@ -87,7 +87,7 @@ fn in_room(billing: &Billing, room: usize) -> Billing {
 }
 
 /// One limit for all tiers but those of retrocessions, and one for A3.
-fn limits(limit: u64, a3: u64) -> RawSchedule {
+pub fn limits(limit: u64, a3: u64) -> RawSchedule {
     let mut rows = [RawRow { rates: [0; 3], fixed: limit }; 8];
     rows[7].fixed = a3;
     RawSchedule { percents: [100, 100], rows, ..RawSchedule::published() }
@@ -98,7 +98,7 @@ fn empty() -> RawBook {
     RawBook { version: 2, ..RawBook::empty(MOST / 2, 0, 0) }
 }
 
-fn bank() -> RawCounterparty {
+pub fn bank() -> RawCounterparty {
     RawCounterparty { kind: 1, grade: 1, ..Default::default() }
 }
 
@@ -106,7 +106,7 @@ fn held(desk: u8, kind: u8, counterparty: u16, value: u64) -> RawAsset {
     RawAsset { kind, counterparty, value, desk, ..Default::default() }
 }
 
-fn cash(counterparty: u16, value: u64) -> RawMitigant {
+pub fn cash(counterparty: u16, value: u64) -> RawMitigant {
     RawMitigant { form: 1, flags: 31, counterparty, value }
 }
 
@@ -121,7 +121,7 @@ fn of_one_name(desks: &[u8], values: &[u64]) -> RawBook {
 }
 
 /// Three reinsurers, each a group of its own in tier h, with these nets at desks 10, 0 and 20.
-fn of_reinsurers(nets: [u64; 3]) -> RawBook {
+pub fn of_reinsurers(nets: [u64; 3]) -> RawBook {
     let mut book = empty();
     for (desk, combination_stress) in [10, 0, 20].into_iter().zip(nets) {
         let name = book.counterparty(RawCounterparty { grade: 1, ..Default::default() });
@@ -568,7 +568,7 @@ fn seeded(random: &mut Random, reports: &[Input]) -> Billing {
 
 /// A fund, mostly with few groups, whose limits are a small part of its exposures; every fifth of
 /// version 1, some of these with more mitigants of one asset than a byte counts.
-fn concentrated(random: &mut Random) -> (RawSchedule, RawBook) {
+pub fn concentrated(random: &mut Random) -> (RawSchedule, RawBook) {
     let (counterparties, assets, mitigants) = match random.below(100) {
         0..=89 => (random.between(1, 6), random.between(2, 20), random.below(20)),
         90..=98 => (random.between(1, 40), random.between(20, 130), random.below(130)),
@@ -598,7 +598,7 @@ fn concentrated(random: &mut Random) -> (RawSchedule, RawBook) {
 }
 
 /// What 13, 17, 14 and 15 turn back, often several of them.
-fn turn_back(random: &mut Random, book: &mut RawBook) {
+pub fn turn_back(random: &mut Random, book: &mut RawBook) {
     let place = random.index(book.assets.len());
     let asset = &mut book.assets[place];
     if random.chance(30) {

@@ -19,7 +19,7 @@ fn sorts() -> impl Iterator<Item = RawCounterparty> {
     })
 }
 
-fn book_of_sorts() -> RawBook {
+pub fn book_of_sorts() -> RawBook {
     let mut book = RawBook::empty(1_000_000, 100_000, 1_000);
     book.counterparties = sorts().collect();
     book

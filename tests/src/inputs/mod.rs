@@ -3,9 +3,10 @@
 //! a schedule (`edges`, `extremes`, `combinations`, `specialist`, `versions`, `rates`), then seeded
 //! books of any fund (`books`) and, every fifth each, of a specialist one (`specialist`) and under
 //! rates in ten-thousandths (`rates`), some of them with faults or damage (`faults`). The converter
-//! has a list of its own (`conversions`), and so have the bills (`billings`). An input's number and
-//! the seed make it again.
+//! has a list of its own (`conversions`), and so have the bills (`billings`) and the questions of
+//! dealers (`askings`). An input's number and the seed make it again.
 
+mod askings;
 mod billings;
 mod books;
 mod combinations;
@@ -17,6 +18,7 @@ mod rates;
 mod specialist;
 mod versions;
 
+pub use askings::{small_fund, Asking, Askings, KINDS};
 pub use billings::{Billing, Billings};
 pub use books::{lifelike, Parents, Shape};
 pub use conversions::Conversions;

@@ -6,9 +6,9 @@ use super::rules::Rules;
 use std::collections::BTreeMap;
 
 /// What a group has in one tier, and the part of it that A3 counts.
-#[derive(Default)]
+#[derive(Clone, Default)]
 pub struct Share {
-    exposure: i128,
+    pub exposure: i128,
     a3_together: i128,
 }
 

@@ -7,6 +7,7 @@ use crate::weightrose::Refusal;
 use std::collections::BTreeMap;
 
 /// VAF (P16), VAF′ (P20) and all reinsurance values.
+#[derive(Clone)]
 pub struct Values {
     pub vaf: i128,
     pub vaf_prime: i128,

@@ -1,18 +1,20 @@
-//! A second implementation of document 01, with document 02's requests C-11, C-13, C-14 and C-15,
+//! A second implementation of document 01, with document 02's requests C-11 and C-13 to C-16,
 //! written from the documents and from nothing else.
 //!
 //! It reads bytes into records (`read`), takes values, exposures, tiers and limits from them
 //! (`fund`), sums them by group and cuts what passes a limit (`cascade`), and writes the report
-//! (`write`); a book is converted record by record (`convert`), and desks are billed line by line
-//! (`bills`). Amounts are `i128`, rates and limits exact fractions (`fraction`), so that no bound
-//! on them has to be known. Each sentence that could be got wrong by itself is a method of `rules`;
-//! `slip` has the wrong variants that a comparison must catch.
+//! (`write`); a book is converted record by record (`convert`), desks are billed line by line
+//! (`bills`), and what more may be bought is found by trying amounts (`headroom`). Amounts are
+//! `i128`, rates and limits exact fractions (`fraction`), so that no bound on them has to be known.
+//! Each sentence that could be got wrong by itself is a method of `rules`; `slip` has the wrong
+//! variants that a comparison must catch.
 
 mod bills;
 mod cascade;
 mod convert;
 mod fraction;
 mod fund;
+mod headroom;
 mod read;
 mod records;
 mod rules;
@@ -21,11 +23,15 @@ mod write;
 
 pub use bills::{bills, bills_by, served_of, Served};
 pub use convert::{convert, convert_by, rebuilt};
+pub use headroom::{headroom, headroom_by, met_of, tried, MetQuestion};
 pub use rules::{Documents, Rules};
 pub use slip::Slip;
 
 use crate::weightrose::{Answer, Refusal};
-use records::{Book, Line};
+use cascade::Sums;
+use fund::Values;
+use records::{Book, Line, Schedule, Tier};
+use std::collections::BTreeMap;
 use write::Figures;
 
 /// The answer to a schedule and a book, with the report at the front of the buffer.
@@ -57,9 +63,13 @@ fn bytes_by<R: Rules>(rules: &R, schedule: &[u8], book: &[u8]) -> Result<Vec<u8>
     Ok(write::report(rules, &accepted.figures, &accepted.groups))
 }
 
-/// A book that is accepted, and what its report says.
+/// A schedule and a book that are accepted, and what their report says.
 struct Accepted {
+    schedule: Schedule,
     book: Book,
+    values: Values,
+    sums: Sums,
+    limits: BTreeMap<Tier, i128>,
     /// Each group's lines by rank.
     groups: Vec<Vec<Line>>,
     figures: Figures,
@@ -94,5 +104,5 @@ fn accepted_by<R: Rules>(rules: &R, schedule: &[u8], book: &[u8]) -> Result<Acce
         a3_limit,
         charge: rules.charge(group_excess, a3_sum, a3_limit),
     };
-    Ok(Accepted { book, groups, figures })
+    Ok(Accepted { schedule, book, values, sums, limits, groups, figures })
 }

@@ -1,5 +1,6 @@
-//! Bytes to records: the layout of schedule and book, and refusals 1 to 12. Which versions of a book
-//! pass is the entry's; a schedule's rates leave here as parts of one, whatever its version.
+//! Bytes to records: the layout of schedule, book and questions, and refusals 1 to 12 and 20. Which
+//! versions of a book pass is the entry's; a schedule's rates leave here as parts of one, whatever
+//! its version.
 
 use super::records::*;
 use super::rules::Rules;
@@ -315,6 +316,22 @@ fn asset_kind(number: u8) -> Option<Kind> {
         11 => Kind::AnyOther,
         _ => return None,
     })
+}
+
+/// The questions of a list to so many counterparties (C-16). "a place or kind is out of range, the
+/// list is over 200 or its bytes aren't three a question" (20): none.
+pub fn questions<R: Rules>(rules: &R, bytes: &[u8], most_place: Place) -> Option<Vec<Question>> {
+    let count = bytes.len() / 3;
+    let mut questions = Vec::new();
+    for (number, stored) in bytes.chunks_exact(3).enumerate() {
+        let (place, kind) = rules.stored_question(stored.try_into().unwrap());
+        let in_range = rules.place_asked(place, most_place) && rules.kind_asked(kind);
+        if !in_range && rules.question_checked(number, count) {
+            return None;
+        }
+        questions.push(Question { counterparty: place, kind: asset_kind(kind) });
+    }
+    Some(questions).filter(|_| rules.list_accepted(count, bytes.len() % 3))
 }
 
 /// "mitigant likewise" (12): none.

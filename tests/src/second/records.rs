@@ -280,6 +280,35 @@ pub struct Account {
     pub left: i128,
 }
 
+/// What a dealer asks about (C-16).
+#[derive(Clone, Copy, Debug)]
+pub struct Question {
+    pub counterparty: Place,
+    /// None where the byte is no kind's.
+    pub kind: Option<Kind>,
+}
+
+/// A question's group and tier, and what the report says of the group.
+#[derive(Clone, Copy, Debug)]
+pub struct Asked<'a> {
+    pub kind: Kind,
+    pub top: Place,
+    pub tier: Tier,
+    /// The group's lines, by rank.
+    pub lines: &'a [Line],
+    /// The fund's limits.
+    pub limits: &'a BTreeMap<Tier, i128>,
+    /// The charge.
+    pub charge: i128,
+}
+
+/// What an amount that is added moves of what the limits are taken of.
+#[derive(Clone, Copy, Debug, Default, PartialEq, Eq)]
+pub struct Moved {
+    pub vaf: i128,
+    pub w: i128,
+}
+
 /// The excess of one desk: what of its lines was not served, and what it has of A3's.
 #[derive(Clone, Copy, Debug, Default)]
 pub struct DeskExcess {

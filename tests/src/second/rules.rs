@@ -240,6 +240,92 @@ pub trait Rules {
         })
     }
 
+    // How much more may be bought (C-16).
+
+    /// "the list is over 200 or its bytes aren't three a question" (20): of a list of so many
+    /// questions, and so many bytes over.
+    fn list_accepted(&self, questions: usize, over: usize) -> bool {
+        questions <= 200 && over == 0
+    }
+
+    /// "each a counterparty place (u16) and an asset kind (one byte)". Document 01: "Stored numbers
+    /// are little-endian".
+    fn stored_question(&self, bytes: [u8; 3]) -> (Place, u8) {
+        (u16::from_le_bytes([bytes[0], bytes[1]]), bytes[2])
+    }
+
+    /// "20 when a place .. is out of range": document 01's "1 to C".
+    fn place_asked(&self, place: Place, most_place: Place) -> bool {
+        (1..=most_place).contains(&place)
+    }
+
+    /// "20 when a .. kind is out of range": document 01's "kind 1 to 11", "other than 9".
+    fn kind_asked(&self, kind: u8) -> bool {
+        (1..=11).contains(&kind) && kind != 9
+    }
+
+    /// "a place or kind": that of every question, here the one of this number, from 0.
+    fn question_checked(&self, _number: usize, _questions: usize) -> bool {
+        true
+    }
+
+    /// "21 when the answer buffer is shorter than eight bytes a question".
+    fn answers_fit(&self, buffer: usize, questions: usize) -> bool {
+        buffer >= 8 * questions
+    }
+
+    /// "both after 15, in that order": what 1 to 15 and 17 find of schedule and book, then 20, then
+    /// 21.
+    fn first_of_headroom(&self, found: [Option<Refusal>; 3]) -> Option<Refusal> {
+        found.into_iter().flatten().next()
+    }
+
+    /// "that group's tier": the counterparty's group, by its topmost parent.
+    fn group_asked(&self, _book: &Book, _counterparty: Place, top: Place) -> Place {
+        top
+    }
+
+    /// "that group's tier": whose kind, grade and flags decide the tier, the counterparty's.
+    fn tier_decided_by(&self, counterparty: Place, _top: Place) -> Place {
+        counterparty
+    }
+
+    /// The tier that is asked about, and none where "A kind without limit" is.
+    fn tier_asked(&self, tier: Option<Tier>, _counterparty: &Counterparty) -> Option<Tier> {
+        tier
+    }
+
+    /// "A kind without limit answers M."
+    fn answer_without_limit(&self) -> i128 {
+        MOST
+    }
+
+    /// "the report's limits held": what an amount moves of VAF, VAF′ and W.
+    fn moved_by(&self, _asked: &Asked, _amount: i128) -> Moved {
+        Moved::default()
+    }
+
+    /// "the greatest amount up to M that can be added .. without raising the charge; one cent more
+    /// raises it unless the answer is M". The charge does not fall with the amount.
+    fn greatest(&self, _asked: &Asked, raises: &dyn Fn(i128) -> bool) -> i128 {
+        let (mut answer, mut raising) = (0, MOST + 1);
+        while raising - answer > 1 {
+            let amount = (answer + raising) / 2;
+            if raises(amount) {
+                raising = amount;
+            } else {
+                answer = amount;
+            }
+        }
+        answer
+    }
+
+    /// "each answer equals what the question gets when sent singly": what of an answer counts as
+    /// bought for the questions behind it.
+    fn bought(&self, _answer: i128) -> i128 {
+        0
+    }
+
     // Values (P16 to P20, P26, P27).
 
     /// "Stressed = combination amount, or the greater of the two if bit 1 is set."

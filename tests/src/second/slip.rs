@@ -17,20 +17,50 @@ macro_rules! slips {
 
             /// Whether it is of the report, and so of all that reads a schedule and a book.
             pub fn of_report(self) -> bool {
-                !self.of_converter() && !self.of_bills()
+                self.is_before(Slip::ConverterTakesVersion2)
             }
 
             /// Whether it is of the converter alone.
             pub fn of_converter(self) -> bool {
-                self as usize >= Slip::ConverterTakesVersion2 as usize && !self.of_bills()
+                !self.of_report() && self.is_before(Slip::CostRate1000Refused)
             }
 
             /// Whether it is of the bills alone.
             pub fn of_bills(self) -> bool {
-                self as usize >= Slip::CostRate1000Refused as usize
+                !self.is_before(Slip::CostRate1000Refused) && !self.of_headroom()
             }
 
-            /// Whether it is of what a report alone has: figures and bytes that no bill reads.
+            /// Whether it is of the answers to questions alone.
+            pub fn of_headroom(self) -> bool {
+                !self.is_before(Slip::Questions200Refused)
+            }
+
+            fn is_before(self, slip: Slip) -> bool {
+                (self as usize) < slip as usize
+            }
+
+            /// Whether it is of what no answer to a question hangs on: A3, which is held, and the
+            /// order of equal limits, under which the same is left.
+            pub fn of_no_answer(self) -> bool {
+                matches!(
+                    self,
+                    Slip::A3Uncapped
+                        | Slip::A3CountsKind4
+                        | Slip::A3CountsTiers7To9
+                        | Slip::A3WithoutTier1
+                        | Slip::A3CountsRetrocession
+                        | Slip::A3WithoutEntry3FromMonth24
+                        | Slip::A3CapReduced
+                        | Slip::A3OnVaf
+                        | Slip::Version1A3RatesInTenThousandths
+                        | Slip::Version2A3RatesPerMille
+                        | Slip::ChargeWithoutA3
+                        | Slip::TiesByHigherNumber
+                )
+            }
+
+            /// Whether it is of what a report alone has: figures and bytes that no bill and no
+            /// answer reads.
             pub fn of_report_alone(self) -> bool {
                 matches!(
                     self,
@@ -298,6 +328,74 @@ slips! {
     RunningCostBilled,
     DesksFrom255,
     Desk255LeftOut,
+
+    // The answers to questions: refusals.
+    Questions200Refused,
+    Questions201Pass,
+    Questions255Pass,
+    QuestionsNotCounted,
+    NoQuestionsRefused,
+    QuestionBytesLeftOver,
+    QuestionShortByAByte,
+    PlaceInTheOtherOrder,
+    PlaceByItsLowByte,
+    KindBeforeThePlace,
+    Place0Passes,
+    PlaceBehindTheLastPasses,
+    LastPlaceRefused,
+    PlacesNotChecked,
+    Kind0Passes,
+    Kind9Passes,
+    Kind12Passes,
+    Kind11Refused,
+    KindByItsLowFourBits,
+    KindsNotChecked,
+    FirstQuestionCheckedAlone,
+    LastQuestionNotChecked,
+    AnswersOfTheirLengthRefused,
+    AnswersOneByteShortPass,
+    LastAnswerLeftOutPasses,
+    AnswersShortOf200Refused,
+    AnswersShortOfABytePerQuestion,
+    AnswersBeforeQuestions,
+    AnswersShortAs16,
+    QuestionsBefore15,
+    QuestionsBefore14,
+    QuestionsBeforeTheBook,
+    QuestionsFirst,
+    AnswersShortBeforeTheBook,
+
+    // Which tier is asked about.
+    AskedOfTheCounterpartyAlone,
+    AskedOfTheParent,
+    TierOfTheTopmostParent,
+    WithoutLimitByItsGrade,
+    WithoutLimitAnswers0,
+    WithoutLimitAnswersAll64Bits,
+
+    // How much.
+    OwnTierAlone,
+    OwnTierNotAsked,
+    GroupsTiersAlone,
+    TiersBelowInPlaceOfAbove,
+    NextTierAboveAlone,
+    HighestTierAlone,
+    TiersAboveByNumber,
+    EqualLimitsNotAsked,
+    StandingBeforeTheTier,
+    OwnExposureNotCounted,
+    ReportsLeftAnswered,
+    WholeGroupCounted,
+    ExposureForStanding,
+    GroupsWithAnExcessAnswer0,
+    ChargedFundsAnswer0,
+    OneCentMore,
+    OneCentLess,
+    MostNotReached,
+    NotCappedAtM,
+    LimitsWithTheAmount,
+    WWithTheAmount,
+    AnswersBoughtInTurn,
 }
 
 impl Slip {
@@ -698,6 +796,195 @@ impl Rules for Slip {
             }
             Slip::Desk255LeftOut => with(right, 255, 0),
             _ => right,
+        }
+    }
+
+    fn list_accepted(&self, questions: usize, over: usize) -> bool {
+        let right = Documents.list_accepted(questions, over);
+        match self {
+            Slip::Questions200Refused => right && questions < 200,
+            Slip::Questions201Pass => right || (questions, over) == (201, 0),
+            Slip::Questions255Pass => questions <= 255 && over == 0,
+            Slip::QuestionsNotCounted => over == 0,
+            Slip::NoQuestionsRefused => right && questions > 0,
+            Slip::QuestionBytesLeftOver => questions <= 200,
+            Slip::QuestionShortByAByte => questions <= 200 && over != 1,
+            _ => right,
+        }
+    }
+
+    fn stored_question(&self, bytes: [u8; 3]) -> (Place, u8) {
+        let [low, high, kind] = bytes;
+        match self {
+            Slip::PlaceInTheOtherOrder => (u16::from_be_bytes([low, high]), kind),
+            Slip::PlaceByItsLowByte => (u16::from(low), kind),
+            Slip::KindBeforeThePlace => (u16::from_le_bytes([high, kind]), low),
+            _ => Documents.stored_question(bytes),
+        }
+    }
+
+    fn place_asked(&self, place: Place, most_place: Place) -> bool {
+        let right = Documents.place_asked(place, most_place);
+        match self {
+            Slip::Place0Passes => right || place == 0,
+            Slip::PlaceBehindTheLastPasses => right || place.checked_sub(1) == Some(most_place),
+            Slip::LastPlaceRefused => right && place < most_place,
+            Slip::PlacesNotChecked => true,
+            _ => right,
+        }
+    }
+
+    fn kind_asked(&self, kind: u8) -> bool {
+        let right = Documents.kind_asked(kind);
+        match self {
+            Slip::Kind0Passes => right || kind == 0,
+            Slip::Kind9Passes => right || kind == 9,
+            Slip::Kind12Passes => right || kind == 12,
+            Slip::Kind11Refused => right && kind < 11,
+            Slip::KindByItsLowFourBits => Documents.kind_asked(kind & 15),
+            Slip::KindsNotChecked => true,
+            _ => right,
+        }
+    }
+
+    fn question_checked(&self, number: usize, questions: usize) -> bool {
+        match self {
+            Slip::FirstQuestionCheckedAlone => number == 0,
+            Slip::LastQuestionNotChecked => number + 1 < questions,
+            _ => Documents.question_checked(number, questions),
+        }
+    }
+
+    fn answers_fit(&self, buffer: usize, questions: usize) -> bool {
+        match self {
+            Slip::AnswersOfTheirLengthRefused => buffer > 8 * questions,
+            Slip::AnswersOneByteShortPass => buffer + 1 >= 8 * questions,
+            Slip::LastAnswerLeftOutPasses => buffer + 8 >= 8 * questions,
+            Slip::AnswersShortOf200Refused => buffer >= 8 * 200,
+            Slip::AnswersShortOfABytePerQuestion => buffer >= questions,
+            _ => Documents.answers_fit(buffer, questions),
+        }
+    }
+
+    fn first_of_headroom(&self, found: [Option<Refusal>; 3]) -> Option<Refusal> {
+        let [of_book, list, short] = found;
+        let number = of_book.map_or(0, Refusal::number);
+        match self {
+            Slip::AnswersBeforeQuestions => of_book.or(short).or(list),
+            Slip::AnswersShortAs16 => of_book.or(list).or(short.map(|_| Refusal::BufferShort)),
+            Slip::QuestionsBefore15 if number == 15 => list.or(of_book),
+            Slip::QuestionsBefore14 if matches!(number, 14 | 15) => list.or(of_book),
+            Slip::QuestionsBeforeTheBook if number >= 5 => list.or(of_book),
+            Slip::QuestionsFirst => list.or(of_book).or(short),
+            Slip::AnswersShortBeforeTheBook if number >= 5 => short.or(of_book),
+            _ => Documents.first_of_headroom(found),
+        }
+    }
+
+    fn group_asked(&self, book: &Book, counterparty: Place, top: Place) -> Place {
+        match self {
+            Slip::AskedOfTheCounterpartyAlone => counterparty,
+            Slip::AskedOfTheParent => {
+                book.counterparties[&counterparty].parent.unwrap_or(counterparty)
+            }
+            _ => Documents.group_asked(book, counterparty, top),
+        }
+    }
+
+    fn tier_decided_by(&self, counterparty: Place, top: Place) -> Place {
+        match self {
+            Slip::TierOfTheTopmostParent => top,
+            _ => Documents.tier_decided_by(counterparty, top),
+        }
+    }
+
+    fn tier_asked(&self, tier: Option<Tier>, counterparty: &Counterparty) -> Option<Tier> {
+        match self {
+            Slip::WithoutLimitByItsGrade if counterparty.graded() => tier.or(Some(Tier::H)),
+            Slip::WithoutLimitByItsGrade => tier.or(Some(Tier::I)),
+            _ => Documents.tier_asked(tier, counterparty),
+        }
+    }
+
+    fn answer_without_limit(&self) -> i128 {
+        match self {
+            Slip::WithoutLimitAnswers0 => 0,
+            Slip::WithoutLimitAnswersAll64Bits => i128::from(u64::MAX),
+            Slip::MostNotReached => MOST - 1,
+            _ => Documents.answer_without_limit(),
+        }
+    }
+
+    fn moved_by(&self, asked: &Asked, amount: i128) -> Moved {
+        let right = Documents.moved_by(asked, amount);
+        match self {
+            Slip::LimitsWithTheAmount => Moved { vaf: amount, ..right },
+            Slip::WWithTheAmount if Documents.counts_in_w(asked.tier, asked.kind) => {
+                Moved { w: amount, ..right }
+            }
+            _ => right,
+        }
+    }
+
+    fn greatest(&self, asked: &Asked, raises: &dyn Fn(i128) -> bool) -> i128 {
+        let right = Documents.greatest(asked, raises);
+        // What is left at a line of the group, or at the tier that is asked about, where such lines
+        // have so much counted.
+        let rank = |tier: Tier| (asked.limits[&tier], tier);
+        let own = rank(asked.tier);
+        let stands = |line: &Line| line.exposure - line.excess;
+        let sum = |counts: &dyn Fn(&Line) -> bool, amount: &dyn Fn(&Line) -> i128| {
+            asked.lines.iter().filter(|line| counts(line)).map(amount).sum::<i128>()
+        };
+        let up_to = |at: (i128, Tier), amount: &dyn Fn(&Line) -> i128| {
+            at.0 - sum(&|line| rank(line.tier) <= at, amount)
+        };
+        let room = |at| up_to(at, &stands);
+        let left = |at: (i128, Tier)| at.0 - sum(&|line| rank(line.tier) < at, &stands);
+        let above = || asked.lines.iter().map(|line| rank(line.tier)).filter(move |&at| at > own);
+        let below = || asked.lines.iter().map(|line| rank(line.tier)).filter(move |&at| at < own);
+        let least = |rooms: &mut dyn Iterator<Item = i128>| rooms.min().unwrap_or(MOST);
+        let with_own = |rooms: &mut dyn Iterator<Item = i128>| least(rooms).min(room(own));
+        let of_own = || asked.lines.iter().find(|line| line.tier == asked.tier);
+        let wrong = match self {
+            Slip::OwnTierAlone => room(own),
+            Slip::OwnTierNotAsked => least(&mut above().map(room)),
+            Slip::GroupsTiersAlone => least(&mut above().chain(of_own().map(|_| own)).map(room)),
+            Slip::TiersBelowInPlaceOfAbove => with_own(&mut below().map(room)),
+            Slip::NextTierAboveAlone => with_own(&mut above().take(1).map(room)),
+            Slip::HighestTierAlone => room(above().next_back().unwrap_or(own)),
+            Slip::TiersAboveByNumber => {
+                let lines = asked.lines.iter().map(|line| rank(line.tier));
+                with_own(&mut lines.filter(|at| at.1 > asked.tier).map(room))
+            }
+            Slip::EqualLimitsNotAsked => {
+                let lower = |line: &Line| line.limit < own.0 || line.tier == asked.tier;
+                let higher = above().filter(|at| at.0 > own.0);
+                least(&mut higher.map(room)).min(own.0 - sum(&lower, &stands))
+            }
+            Slip::StandingBeforeTheTier => least(&mut above().map(left)).min(left(own)),
+            Slip::OwnExposureNotCounted => least(&mut above().map(room)).min(left(own)),
+            Slip::ReportsLeftAnswered => of_own().map_or(own.0, |line| line.left),
+            Slip::WholeGroupCounted => own.0 - sum(&|_| true, &stands),
+            Slip::ExposureForStanding => {
+                let room = |at| up_to(at, &|line| line.exposure);
+                least(&mut above().map(room)).min(room(own))
+            }
+            Slip::GroupsWithAnExcessAnswer0 if sum(&|_| true, &|line| line.excess) > 0 => 0,
+            Slip::ChargedFundsAnswer0 if asked.charge > 0 => 0,
+            Slip::OneCentMore => right + 1,
+            Slip::OneCentLess => right - 1,
+            Slip::MostNotReached => right.min(MOST - 1),
+            Slip::NotCappedAtM if right == MOST => return with_own(&mut above().map(room)),
+            _ => right,
+        };
+        wrong.clamp(0, MOST)
+    }
+
+    fn bought(&self, answer: i128) -> i128 {
+        match self {
+            Slip::AnswersBoughtInTurn => answer,
+            _ => Documents.bought(answer),
         }
     }
 

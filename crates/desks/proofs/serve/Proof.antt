@@ -63,7 +63,7 @@ serve-parts-requires c κs =
       rw e (end-few o (here d) refl),
       rw e (own-desk o (here d) refl (s .pre .0) (byte d) (s .pre .8)),
       s .pre .4,
-      d .before .before .tiers-of-columns .ensures,
+      d .before .before .tiers .ensures,
       s .pre .6,
       lined-still o (s .pre .8),
       rw e (parts-room o (here d) refl (s .pre .0) (byte d) (s .pre .8) (s .pre .9)),
@@ -89,7 +89,7 @@ rest-cell-requires c κs =
     let d = a .before in
     let s = d .before .before .before .before .before .before .before .before .before .before .before in
     let r = rest-row (now (s .args .b)) (d .before .loop .place) (row-at a) (s .pre .5 .each _ (d .before .loop .inv .low) (here d)) in
-    (r .0, r .1, d .before .before .tiers-of-columns .ensures)
+    (r .0, r .1, d .before .before .tiers .ensures)
 
 mul-serve : tie.Need-mul-serve Inv-loop μ-loop
 mul-serve c = let d = c .before .before .before .before .before .before .before .before .before .before .before .before .before .before .before .before .before .before in record { fits = omega (arith, here d, d .before .before .before .before .before .before .before .before .before .before .before .pre .0 .assets) }

@@ -11,11 +11,11 @@ use Rattle.entries.proofs.accepted.Tie as tie
 
 header-at-requires : tie.Need-header-at-requires
 header-at-requires c κs =
-    let a = taken (c .before .before .before .pre) in omega (arith, a .size)
+    let a = taken (c .before .before .before .before .pre) in omega (arith, a .size)
 
 small-requires : tie.Need-small-requires
 small-requires c κs =
-    let s = c .before .before .before .before .before .before .before .before .before in
+    let s = c .before .before .before .before .before .before .before .before .before .before in
     let n = header-counts (now (s .args .book)) (c .before .before .before .before .before .header-at .ensures) in
     let t = both _ _ (c .before .if1 .taken) in
     let u = both _ _ (t .0) in
@@ -23,7 +23,7 @@ small-requires c κs =
 
 medium-requires : tie.Need-medium-requires
 medium-requires c κs =
-    let s = c .before .before .before .before .before .before .before .before .before .before in
+    let s = c .before .before .before .before .before .before .before .before .before .before .before in
     let n = header-counts (now (s .args .book)) (c .before .before .before .before .before .before .header-at .ensures) in
     let t = both _ _ (c .before .if2 .taken) in
     let u = both _ _ (t .0) in
@@ -31,7 +31,7 @@ medium-requires c κs =
 
 large-requires : tie.Need-large-requires
 large-requires c κs =
-    let s = c .before .before .before .before .before .before .before .before .before .before in (s .pre, header-counts (now (s .args .book)) (c .before .before .before .before .before .before .header-at .ensures) .0)
+    let s = c .before .before .before .before .before .before .before .before .before .before .before in (s .pre, header-counts (now (s .args .book)) (c .before .before .before .before .before .before .header-at .ensures) .0)
 
 pub accepted-spec : {M : Type 1} → statement M
 accepted-spec =

@@ -9,7 +9,7 @@ use Rattle.entries.proofs.answer.Tie as tie
 
 finish-requires : tie.Need-finish-requires
 finish-requires c κs =
-    let s = c .before .before .before .before .before .before .before .before .before .before .before .before .before .before .before .before .before .before .before .before .before .before .before .before .before .before .before .before .before .before .before .before .before .before .before .before .before .before .before .before .before .before .before in
+    let s = c .before .before .before .before .before .before .before .before .before .before .before .before .before .before .before .before .before .before .before .before .before .before .before .before .before .before .before .before .before .before .before .before .before .before .before .before .before .before .before .before .before .before .before .before in
     let p = s .pre in
     let k = c .before .before .before .before .before .before .before .before .before .before .before .before .before .before .before .before .before .before .before .before .before .make in
     let fine = made-fine (now (s .args .schedule)) (now (s .args .book)) (k .result) (k .ensures .1) (c .before .before .before .before .before .before .before .enum-told .given .1) in
@@ -17,10 +17,10 @@ finish-requires c κs =
 
 returns : tie.Need-returns
 returns c =
-    let s = c .before .before .before .before .before .before .before .before .before .before .before .before .before .before .before .before .before .before .before .before .before .before .before .before .before .before .before .before .before .before .before .before .before .before .before .before .before in
+    let s = c .before .before .before .before .before .before .before .before .before .before .before .before .before .before .before .before .before .before .before .before .before .before .before .before .before .before .before .before .before .before .before .before .before .before .before .before .before .before in
     let k = c .before .before .before .before .before .before .before .before .before .before .before .before .before .before .before .make in
     let bad = made-bad (now (s .args .schedule)) (now (s .args .book)) (k .result) (k .ensures .1) (c .before .found .given .1) in
-    bad-fund (now (s .args .schedule)) (now (s .args .book)) (now (s .args .lent)) (s .args .wanted) (s .pre .0) bad
+    bad-fund (now (s .args .schedule)) (now (s .args .book)) (now (s .args .asked)) (now (s .args .lent)) (s .args .wanted) (s .pre .0) bad
 
 pub answer-spec : {M : Type 1} → statement M
 answer-spec =

@@ -13,11 +13,11 @@ use Rattle.entries.proofs.large.Tie as tie
 
 fill-requires : tie.Need-fill-requires
 fill-requires c κs =
-    let s = c .before .before .before .before .before .before .before .before in let a = taken (s .pre .0) in (a, s .pre .1, zero-parties _ 500 (omega (arith, s .pre .1, a .counterparties)))
+    let s = c .before .before .before .before .before .before .before .before .before in let a = taken (s .pre .0) in (a, s .pre .1, zero-parties _ 500 (omega (arith, s .pre .1, a .counterparties)))
 
 few-requires : tie.Need-few-requires
 few-requires c κs =
-    let s = c .before .before .before .before .before .before .before .before .before .before .before .before .before .before .before .before .before .before .before .before .before .before .before .before .before in
+    let s = c .before .before .before .before .before .before .before .before .before .before .before .before .before .before .before .before .before .before .before .before .before .before .before .before .before .before in
     let B = now (s .args .book) in
     let a = taken (s .pre .0) in
     let r = zero-parties (C B) 500 (a .counterparties) in
@@ -26,7 +26,7 @@ few-requires c κs =
 
 many-requires : tie.Need-many-requires
 many-requires c κs =
-    let s = c .before .before .before .before .before .before .before .before .before .before .before .before .before .before .before .before .before .before .before .before .before .before .before .before .before in
+    let s = c .before .before .before .before .before .before .before .before .before .before .before .before .before .before .before .before .before .before .before .before .before .before .before .before .before .before in
     let B = now (s .args .book) in
     let a = taken (s .pre .0) in
     let r = zero-parties (C B) 500 (a .counterparties) in

@@ -13,11 +13,11 @@ use Rattle.entries.proofs.medium.Tie as tie
 
 fill-requires : tie.Need-fill-requires
 fill-requires c κs =
-    let s = c .before .before .before .before .before .before .before .before in (taken (s .pre .0), s .pre .1, zero-parties _ 128 (omega (arith, s .pre .1, s .pre .2 .counterparties)))
+    let s = c .before .before .before .before .before .before .before .before .before in (taken (s .pre .0), s .pre .1, zero-parties _ 128 (omega (arith, s .pre .1, s .pre .2 .counterparties)))
 
 answer-requires : tie.Need-answer-requires
 answer-requires c κs =
-    let s = c .before .before .before .before .before .before .before .before .before .before .before .before .before .before .before .before .before .before .before .before .before .before .before .before .before .before .before in
+    let s = c .before .before .before .before .before .before .before .before .before .before .before .before .before .before .before .before .before .before .before .before .before .before .before .before .before .before .before .before in
     let B = now (s .args .book) in
     let w = s .pre .2 in
     let q = c .before .before .before .before .before .before .before .before .before .before .before .before .before .before .before .before .before .before .fill .ensures in

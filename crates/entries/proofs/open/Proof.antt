@@ -11,13 +11,13 @@ accepted-requires c κs = record { of-schedule = sym (c .before .before .before 
 
 returns : tie.Need-returns
 returns c =
-    let a = c .before .before .before .before .before .before .before .args in
-    bad-schedule (now (a .schedule)) (now (a .book)) (now (a .lent)) (a .wanted) (sym (c .before .before .before .check .ensures) ∙ c .before .rates .given .1)
+    let a = c .before .before .before .before .before .before .before .before .args in
+    bad-schedule (now (a .schedule)) (now (a .book)) (now (a .asked)) (now (a .lent)) (a .wanted) (sym (c .before .before .before .check .ensures) ∙ c .before .rates .given .1)
 
 returns-2 : tie.Need-returns-2
 returns-2 c =
-    let a = c .before .before .before .before .before .before .before .before .before .before .args in
-    bad-book (now (a .schedule)) (now (a .book)) (now (a .lent)) (a .wanted) (sym (c .before .before .before .before .before .before .check .ensures) ∙ c .before .before .before .before .enum-told .given .1) (sym (c .before .before .before .check2 .ensures) ∙ c .before .records .given .1)
+    let a = c .before .before .before .before .before .before .before .before .before .before .before .args in
+    bad-book (now (a .schedule)) (now (a .book)) (now (a .asked)) (now (a .lent)) (a .wanted) (sym (c .before .before .before .before .before .before .check .ensures) ∙ c .before .before .before .before .enum-told .given .1) (sym (c .before .before .before .check2 .ensures) ∙ c .before .records .given .1)
 
 pub open-spec : {M : Type 1} → statement M
 open-spec =

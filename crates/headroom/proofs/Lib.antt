@@ -1,0 +1,4 @@
+pub mod Along
+pub mod Closed
+pub mod Greatest
+pub mod Going

@@ -1,0 +1,4 @@
+pub mod Listed
+pub mod Chain
+mod Answering
+mod Written

@@ -1,0 +1,42 @@
+-- An answer out of a fund's tables.
+--   answerAt answersAt   the answer for a place and a kind; those to a list's first n questions, as bytes
+--   Answerable           what the tables are to be like for it
+use mathlib.Core.List.{List, map}
+use mathlib.Core.Path.{_≡_}
+use Prim.Native.Nat.{ℕ, _+_, _*_, _-_, _≤_, _<_}
+use lib.ListN.{length, getD}
+use Rattle.words.specs.Words.{sum, countFrom}
+use Rattle.wire.specs.Bytes.{M}
+use Rattle.cascade.specs.Cascade.{tiers, byTier, byLimit, ranked}
+use Rattle.rows.specs.Rows.{columns}
+use Rattle.headroom.specs.Headroom.{roomIn, rowFrom}
+use Rattle.columns.specs.Column.{tierIn, digit}
+use Rattle.questions.specs.Questions.{placeAt, kindAt}
+
+-- where the row of a counterparty's group starts, and its exposures by tier
+abbrev pub startAt : List ℕ → ℕ → ℕ
+startAt rows place = getD rows place 0
+
+abbrev pub exposuresAt : List ℕ → List ℕ → ℕ → ℕ → ℕ
+exposuresAt rows cells place = rowFrom cells (startAt rows place)
+
+-- the column of a kind
+abbrev pub columnAt : List ℕ → ℕ → ℕ → ℕ
+columnAt words place kind = digit (kind - 1) (getD words place 0)
+
+unfoldable pub answerAt : List ℕ → List ℕ → List ℕ → List ℕ → ℕ → ℕ → ℕ
+answerAt limits words rows cells place kind =
+    roomIn tiers (byLimit (byTier limits)) (byTier limits) (exposuresAt rows cells place) (tierIn (columnAt words place kind)) M
+
+abbrev pub answersAt : List ℕ → List ℕ → List ℕ → List ℕ → List ℕ → ℕ → List ℕ
+answersAt limits words rows cells questions n = map (λ k. answerAt limits words rows cells (placeAt questions k) (kindAt questions k)) (countFrom 0 n)
+
+pub record Answerable (limits ranking words rows cells : List ℕ) (place kind : ℕ) : Type 0 where
+  pub words-size : place < length words
+  pub rows-size : place < length rows
+  pub low : 0 < kind
+  pub high : kind < 12
+  pub column : columnAt words place kind < columns
+  pub row : startAt rows place + tiers ≤ length cells
+  pub ranks : ranking ≡ ranked (byLimit (byTier limits)) tiers
+  pub amounts : sum (exposuresAt rows cells place) tiers ≤ 900 * M

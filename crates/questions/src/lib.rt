@@ -1,0 +1,144 @@
+// The answers to a list of questions of a fund, or refusals 20 and 21.
+use cascade::TIERS;
+use fund::Fund;
+use refusal::Answer;
+use refusal::Refusal;
+ghost use mathlib.Core.Path.{_≡_};
+ghost use Prim.Native.Nat.{ℕ, _*_, _≤_, _<_};
+ghost use lib.ListN.{length};
+ghost use Rattle.words.specs.Below.{allBelow};
+ghost use Rattle.wire.specs.Bytes.{placed};
+ghost use Rattle.wire.specs.Amounts.{amountsBytes};
+ghost use Rattle.refusal.specs.declared.Checked.the-variants.{Fine};
+ghost use Rattle.book.specs.Records.{C};
+ghost use Rattle.book.specs.Book.{bookOf};
+ghost use Rattle.exposure.specs.Values.{fundCheck};
+ghost use Rattle.columns.specs.Column.{Tiered};
+ghost use Rattle.parties.specs.Rows.{topsTo};
+ghost use Rattle.cells.specs.Cells.{Rowed};
+ghost use Rattle.fund.specs.Fund.{Passed, Exposed, RatedAs};
+ghost use Rattle.questions.specs.Questions.{questionSize, answerSize, mostQuestions, placeAt, kindAt, goodQuestion, goodList};
+ghost use Rattle.questions.specs.Tables.{answerAt, answersAt, Answerable};
+ghost use Rattle.questions.specs.Headroom.{Asked};
+
+// The most questions of a list, the bytes of a question and those of an answer.
+const MOST: usize = 200;
+
+const QUESTION: usize = 3;
+
+const ANSWER: usize = 8;
+
+// Whether a place and a kind are in range, where there are c counterparties.
+fn good_question(place: u16, kind: u8, c: u16) -> bool
+    ensures { λ r. ⌜ r ≡ goodQuestion c place kind ⌝ }
+{
+    (1 <= place) & (place <= c) & (1 <= kind) & (kind <= 11) & (kind != 9)
+}
+
+// Whether those of the first n questions are.
+fn all_good(questions: &[u8], n: usize, c: u16) -> bool
+    requires { ⌜ (n ≤ mostQuestions) × (questionSize * n ≤ length (now questions)) ⌝ }
+    ensures { λ r. ⌜ r ≡ allBelow n (λ k. goodQuestion c (placeAt (now (questions .entry)) k) (kindAt (now (questions .entry)) k)) ⌝ }
+{
+    let mut k = 0;
+    while k < n {
+        let place = wire::u16_at(questions, QUESTION * k);
+        let kind = questions[QUESTION * k + 2];
+        if !good_question(place, kind, c) {
+            return false;
+        }
+        k += 1;
+    }
+    true
+}
+
+// Whether a list is one of up to MOST questions, all in range.
+fn good_list(questions: &[u8], c: u16) -> bool
+    ensures { λ r. ⌜ r ≡ goodList c (now (questions .entry)) ⌝ }
+{
+    let n = questions.len() / QUESTION;
+    if MOST < n {
+        return false;
+    }
+    if questions.len() != QUESTION * n {
+        return false;
+    }
+    all_good(questions, n, c)
+}
+
+// The answer for a place and a kind, out of the tables by counterparty, the columns' tiers and the cells.
+fn answer(
+    place: u16,
+    kind: u8,
+    limits: [u64; TIERS],
+    ranking: [usize; TIERS],
+    words: &[u64],
+    rows: &[u16],
+    tiers: &[u16],
+    cells: &[u64],
+) -> u64
+    requires { ⌜ (Answerable limits ranking (now words) (now rows) (now cells) place kind) × (Tiered (now tiers)) ⌝ }
+    ensures { λ r. ⌜ r ≡ answerAt limits (now (words .entry)) (now (rows .entry)) (now (cells .entry)) place kind ⌝ }
+{
+    let who = place as usize;
+    let wanted = kind as u64;
+    let column = columns::of_kind(words[who], wanted) as usize;
+    let tier = tiers[column] as usize;
+    let row = rows[who] as usize;
+    headroom::room(limits, cells, row, ranking, tier, wire::M)
+}
+
+// The answers to n questions, eight bytes each. No byte behind them changes.
+fn put_answers(
+    questions: &[u8],
+    n: usize,
+    limits: [u64; TIERS],
+    ranking: [usize; TIERS],
+    words: &[u64],
+    rows: &[u16],
+    cells: &[u64],
+    answers: &mut [u8],
+)
+    requires { ⌜ (n ≤ mostQuestions) × (questionSize * n ≤ length (now questions)) × (answerSize * n ≤ length (now answers)) × ((k : ℕ) → k < n → Answerable limits ranking (now words) (now rows) (now cells) (placeAt (now questions) k) (kindAt (now questions) k)) ⌝ }
+    ensures { λ _. ⌜ now (answers .exit) ≡ placed (now (answers .entry)) 0 (amountsBytes (answersAt limits (now (words .entry)) (now (rows .entry)) (now (cells .entry)) (now (questions .entry)) n)) ⌝ }
+{
+    let tiers = columns::tiers();
+    let mut k = 0;
+    while k < n {
+        let place = wire::u16_at(questions, QUESTION * k);
+        let kind = questions[QUESTION * k + 2];
+        let amount = answer(place, kind, limits, ranking, words, rows, &tiers, cells);
+        wire::put_u64(answers, ANSWER * k, amount);
+        k += 1;
+    }
+}
+
+// Refusals 20 and 21, or the answers, of a fund whose tables are made.
+pub fn finish(
+    schedule: &[u8],
+    book: &[u8],
+    groups: usize,
+    f: Fund,
+    questions: &[u8],
+    words: &[u64],
+    rows: &[u16],
+    cells: &[u64],
+    answers: &mut [u8],
+) -> Answer
+    requires { ⌜ (Passed (now schedule) (now book)) × (fundCheck (bookOf (now book)) ≡ Fine) × (groups ≡ topsTo (now book) (C (now book))) × (RatedAs (now schedule) (now book) f) × (Rowed (now book) (now words) (now rows)) × (Exposed (now book) groups (now cells)) ⌝ }
+    ensures { λ r. ⌜ Asked (now (schedule .entry)) (now (book .entry)) (now (questions .entry)) (now (answers .entry)) (now (answers .exit)) r ⌝ }
+{
+    let limits = f.limits;
+    let ranking = f.ranking;
+    let h = book::header_at(book);
+    if !good_list(questions, h.counterparties) {
+        return Answer::Refused(Refusal::Questions);
+    }
+    let n = questions.len() / QUESTION;
+    let size = ANSWER * n;
+    if answers.len() < size {
+        return Answer::Refused(Refusal::AnswersShort);
+    }
+    put_answers(questions, n, limits, ranking, words, rows, cells, answers);
+    Answer::Written(size)
+}
