@@ -417,6 +417,21 @@ t4_and_t5(void)
 
 /* ---- Refusals: a good schedule and a good book with one thing changed ---- */
 
+/* Prints a refusal and expects this one, its place and a buffer still full of 0xa5. */
+static void
+expect_refused(const char *what, uint64_t answer, enum weightrose_refusal refusal, uint32_t place,
+	       struct block untouched)
+{
+	size_t i;
+
+	printf("%s %d at %" PRIu32 ": %s\n", what, (int)weightrose_refusal_of(answer),
+	       weightrose_place_of(answer), sentence(weightrose_refusal_of(answer)));
+	expect(weightrose_refusal_of(answer) == refusal, sentence(refusal));
+	expect(weightrose_place_of(answer) == place, "a refusal's place");
+	for (i = 0; i < untouched.length; i++)
+		expect(untouched.bytes[i] == 0xa5, "a refusal changed the buffer");
+}
+
 /* Asks with a buffer of that length and expects the refusal, its place and an untouched buffer. */
 static void
 expect_refusal(struct block schedule, struct block book, size_t room,
@@ -424,17 +439,11 @@ expect_refusal(struct block schedule, struct block book, size_t room,
 {
 	struct block report = new_block(room);
 	uint64_t answer;
-	size_t i;
 
 	memset(report.bytes, 0xa5, report.length);
 	answer = weightrose_report(schedule.bytes, schedule.length, book.bytes, book.length,
 				   report.bytes, report.length);
-	printf("refusal %d at %" PRIu32 ": %s\n", (int)weightrose_refusal_of(answer),
-	       weightrose_place_of(answer), sentence(weightrose_refusal_of(answer)));
-	expect(weightrose_refusal_of(answer) == refusal, sentence(refusal));
-	expect(weightrose_place_of(answer) == place, "a refusal's place");
-	for (i = 0; i < report.length; i++)
-		expect(report.bytes[i] == 0xa5, "a refusal changed the buffer");
+	expect_refused("refusal", answer, refusal, place, report);
 	free(report.bytes);
 }
 
@@ -643,16 +652,10 @@ expect_not_converted(struct block book, size_t room, enum weightrose_refusal ref
 {
 	struct block converted = new_block(room);
 	uint64_t answer;
-	size_t i;
 
 	memset(converted.bytes, 0xa5, converted.length);
 	answer = weightrose_convert(book.bytes, book.length, converted.bytes, converted.length);
-	printf("not converted, %d at %" PRIu32 ": %s\n", (int)weightrose_refusal_of(answer),
-	       weightrose_place_of(answer), sentence(weightrose_refusal_of(answer)));
-	expect(weightrose_refusal_of(answer) == refusal, sentence(refusal));
-	expect(weightrose_place_of(answer) == place, "C-13: a refusal's place");
-	for (i = 0; i < converted.length; i++)
-		expect(converted.bytes[i] == 0xa5, "a refusal changed the converted book");
+	expect_refused("not converted,", answer, refusal, place, converted);
 	free(converted.bytes);
 }
 
@@ -781,17 +784,11 @@ expect_not_billed(struct block book, uint64_t rate, size_t room, enum weightrose
 	struct block schedule = new_schedule();
 	struct block bills = new_block(room);
 	uint64_t answer;
-	size_t i;
 
 	memset(bills.bytes, 0xa5, bills.length);
 	answer = weightrose_bills(schedule.bytes, schedule.length, book.bytes, book.length, rate,
 				  bills.bytes, bills.length);
-	printf("not billed, %d at %" PRIu32 ": %s\n", (int)weightrose_refusal_of(answer),
-	       weightrose_place_of(answer), sentence(weightrose_refusal_of(answer)));
-	expect(weightrose_refusal_of(answer) == refusal, sentence(refusal));
-	expect(weightrose_place_of(answer) == 0, "C-14: a refusal's place");
-	for (i = 0; i < bills.length; i++)
-		expect(bills.bytes[i] == 0xa5, "a refusal changed the bills");
+	expect_refused("not billed,", answer, refusal, 0, bills);
 	free(schedule.bytes);
 	free(bills.bytes);
 }
@@ -1087,17 +1084,11 @@ expect_not_answered(struct block book, struct block list, size_t room,
 	struct block schedule = new_schedule();
 	struct block answers = new_block(room);
 	uint64_t answer;
-	size_t i;
 
 	memset(answers.bytes, 0xa5, answers.length);
 	answer = weightrose_headroom(schedule.bytes, schedule.length, book.bytes, book.length,
 				     list.bytes, list.length, answers.bytes, answers.length);
-	printf("not answered, %d at %" PRIu32 ": %s\n", (int)weightrose_refusal_of(answer),
-	       weightrose_place_of(answer), sentence(weightrose_refusal_of(answer)));
-	expect(weightrose_refusal_of(answer) == refusal, sentence(refusal));
-	expect(weightrose_place_of(answer) == 0, "C-16: a refusal's place");
-	for (i = 0; i < answers.length; i++)
-		expect(answers.bytes[i] == 0xa5, "a refusal changed the answers");
+	expect_refused("not answered,", answer, refusal, 0, answers);
 	free(schedule.bytes);
 	free(answers.bytes);
 }

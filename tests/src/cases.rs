@@ -86,15 +86,20 @@ pub fn report(book: &RawBook) -> Report {
     report_under(&weightrose::published(), book)
 }
 
-/// The refusal of a schedule and a book with a buffer of that length, which must stay as it was.
-pub fn refusal(schedule: &[u8], book: &[u8], room: usize) -> Refusal {
+/// The refusal of a call with a buffer of that length, which must stay as it was.
+pub fn refused(room: usize, call: impl FnOnce(&mut [u8]) -> Answer) -> Refusal {
     let mut buffer = vec![0xa5; room];
-    let answer = weightrose::report(schedule, book, &mut buffer);
+    let answer = call(&mut buffer);
     assert!(buffer.iter().all(|&byte| byte == 0xa5), "a refusal changed the buffer");
     match answer {
         Answer::Refused(refusal) => refusal,
-        Answer::Written(length) => panic!("a report of {length} bytes"),
+        Answer::Written(length) => panic!("{length} bytes were written"),
     }
+}
+
+/// The refusal of a schedule and a book.
+pub fn refusal(schedule: &[u8], book: &[u8], room: usize) -> Refusal {
+    refused(room, |buffer| weightrose::report(schedule, book, buffer))
 }
 
 /// The refusal of a book under the published schedule.
@@ -118,15 +123,9 @@ pub fn bills(book: &RawBook, rate: u64) -> Vec<(u8, u64)> {
     bills_under(&weightrose::published(), book, rate)
 }
 
-/// The refusal of bills with a buffer of that length, which must stay as it was.
+/// The refusal of bills.
 pub fn not_billed(schedule: &[u8], book: &[u8], rate: u64, room: usize) -> Refusal {
-    let mut buffer = vec![0xa5; room];
-    let answer = weightrose::bills(schedule, book, rate, &mut buffer);
-    assert!(buffer.iter().all(|&byte| byte == 0xa5), "a refusal changed the bills");
-    match answer {
-        Answer::Refused(refusal) => refusal,
-        Answer::Written(length) => panic!("{length} bytes were written"),
-    }
+    refused(room, |buffer| weightrose::bills(schedule, book, rate, buffer))
 }
 
 /// How much more may be bought of what each question names, for a book that is accepted, under a
@@ -146,13 +145,7 @@ pub fn answers(book: &RawBook, questions: &[RawQuestion]) -> Vec<u64> {
     answers_under(&weightrose::published(), book, questions)
 }
 
-/// The refusal of a list with a buffer of that length, which must stay as it was.
+/// The refusal of a list of questions.
 pub fn not_answered(schedule: &[u8], book: &[u8], questions: &[u8], room: usize) -> Refusal {
-    let mut buffer = vec![0xa5; room];
-    let answer = weightrose::headroom(schedule, book, questions, &mut buffer);
-    assert!(buffer.iter().all(|&byte| byte == 0xa5), "a refusal changed the answers");
-    match answer {
-        Answer::Refused(refusal) => refusal,
-        Answer::Written(length) => panic!("{length} bytes were written"),
-    }
+    refused(room, |buffer| weightrose::headroom(schedule, book, questions, buffer))
 }

@@ -4,8 +4,8 @@
 //! bought.
 
 use weightrose_tests::cases::{
-    answers, answers_under, bills, bills_under, not_answered, not_billed, refusal, refused_book,
-    report, report_under, Report,
+    answers, answers_under, bills, bills_under, not_answered, not_billed, refusal, refused,
+    refused_book, report, report_under, Report,
 };
 use weightrose_tests::compare::{
     bought, library, library_bills, library_headroom, outcome, room, Subject,
@@ -18,10 +18,10 @@ use weightrose_tests::random::Random;
 use weightrose_tests::raw::*;
 use weightrose_tests::second::{rebuilt, tried};
 use weightrose_tests::weightrose::{
-    amount, bill, convert, headroom, packed_bills, packed_headroom, packed_report, published,
-    Answer, Refusal, ANSWER, BILLS, LARGEST_BOOK, LARGEST_REPORT, LINE, MOST_COST_RATE,
-    MOST_QUESTIONS, MOST_RATE_PER_MILLE, MOST_RATE_TEN_THOUSANDTHS, QUESTION, SCHEDULE,
-    SCHEDULE_PER_MILLE, SCHEDULE_TEN_THOUSANDTHS,
+    bill, convert, headroom, packed_bills, packed_headroom, packed_report, published, Answer,
+    Refusal, ANSWER, BILLS, LARGEST_BOOK, LARGEST_REPORT, LINE, MOST_COST_RATE, MOST_QUESTIONS,
+    MOST_RATE_PER_MILLE, MOST_RATE_TEN_THOUSANDTHS, QUESTION, SCHEDULE, SCHEDULE_PER_MILLE,
+    SCHEDULE_TEN_THOUSANDTHS,
 };
 
 const TOTAL: u64 = 10_000_000_000;
@@ -406,16 +406,9 @@ fn converted(book: &RawBook) -> Vec<u8> {
     new
 }
 
-/// The refusal of a book that the converter gets with an output of that length, which must stay as
-/// it was.
+/// The refusal of a book that the converter gets.
 fn not_converted(book: &[u8], room: usize) -> Refusal {
-    let mut buffer = vec![0xa5; room];
-    let answer = convert(book, &mut buffer);
-    assert!(buffer.iter().all(|&byte| byte == 0xa5), "a refusal changed the output");
-    match answer {
-        Answer::Refused(refusal) => refusal,
-        Answer::Written(length) => panic!("{length} bytes were written"),
-    }
+    refused(room, |output| convert(book, output))
 }
 
 /// A name with three assets, the second of which has so many mitigants.
@@ -833,6 +826,20 @@ fn c14_the_largest_bills() {
     assert_eq!(bills(&book, 1_000), [(0, 90 * MOST - MOST / 400)]);
 }
 
+/// Buffers with any bytes in them, at any place and longer than needed: these are written, and
+/// no other byte is.
+fn writes_alone(wanted: &[u8], write: impl Fn(&mut [u8]) -> u64) {
+    for filling in [0x00, 0xff, 0x5a] {
+        for (start, behind) in [(0, 0), (1, 1), (3, 7), (7, 8), (5, 9), (2, 100_000)] {
+            let end = start + wanted.len();
+            let mut area = vec![filling; end + behind + 1];
+            assert_eq!(write(&mut area[start..end + behind]), wanted.len() as u64);
+            assert!(area[start..end] == *wanted);
+            assert!(area[..start].iter().chain(&area[end..]).all(|&byte| byte == filling));
+        }
+    }
+}
+
 /// "They are 256 amounts of eight bytes, and 16 compares that length": no other byte is written,
 /// and what was there before does not matter.
 #[test]
@@ -845,33 +852,27 @@ fn c14_the_buffer() {
         for room in (0..BILLS).step_by(89).chain(BILLS - 10..BILLS) {
             assert_eq!(not_billed(&published(), &bytes, 1_000, room), Refusal::BufferShort);
         }
-        for filling in [0x00, 0xff, 0x5a] {
-            for (start, behind) in [(0, 0), (1, 1), (3, 7), (7, 8), (5, 9), (2, 100_000)] {
-                let end = start + BILLS;
-                let mut area = vec![filling; end + behind + 1];
-                let lent = &mut area[start..end + behind];
-                assert_eq!(packed_bills(&published(), &bytes, 1_000, lent), BILLS as u64);
-                assert!(area[start..end] == wanted);
-                assert!(area[..start].iter().chain(&area[end..]).all(|&byte| byte == filling));
-            }
-        }
+        writes_alone(&wanted, |lent| packed_bills(&published(), &bytes, 1_000, lent));
     }
 }
 
-/// 16, 19, 15, 14, 17, 13, then 12 to 1: each fault is put before those that are there already.
-#[test]
-fn c14_refusals_in_their_order() {
-    let mut schedule = published().to_vec();
-    let mut book = RawBook { version: 2, ..specialist(5, 0) };
+/// A book that is accepted, and can be refused for anything.
+fn refusable(version: u16) -> RawBook {
+    let mut book = RawBook { version, ..specialist(5, 0) };
     book.counterparty(graded());
     let cash = RawMitigant { form: 1, flags: 31, counterparty: 1, value: 1 };
     book.asset(retrocession(1, 0, 5), &[cash]);
-    let refused = |schedule: &[u8], book: &RawBook, rate| {
-        not_billed(schedule, &book.bytes(), rate, BILLS - 1)
-    };
-    assert_eq!(refused(&schedule, &book, 1_000), Refusal::BufferShort);
-    let rate = 1_001;
-    assert_eq!(refused(&schedule, &book, rate), Refusal::CostRate);
+    book
+}
+
+/// 15, 14, 17, 13, then 12 to 1 of that book, whatever is refused behind them: each fault is put
+/// before those that are there already. `refused` takes a schedule, a book and a buffer's length.
+fn refused_15_to_1(
+    mut book: RawBook,
+    room: usize,
+    refused: impl Fn(&[u8], &[u8], usize) -> Refusal,
+) {
+    let mut schedule = published().to_vec();
     type Fault = (fn(&mut RawBook), Refusal);
     let faults: [Fault; 11] = [
         (|book| book.excluded = 6, Refusal::StressedAssets),
@@ -888,19 +889,29 @@ fn c14_refusals_in_their_order() {
     ];
     for (fault, wanted) in faults {
         fault(&mut book);
-        assert_eq!(refused(&schedule, &book, rate), wanted);
+        assert_eq!(refused(&schedule, &book.bytes(), room), wanted);
     }
     let short = &book.bytes()[..39];
-    assert_eq!(not_billed(&schedule, short, rate, 0), Refusal::BookLength);
+    assert_eq!(refused(&schedule, short, 0), Refusal::BookLength);
     for (place, byte, wanted) in [
         (6, 101, Refusal::ScheduleRates),
         (4, 3, Refusal::ScheduleVersion),
         (3, 1, Refusal::ScheduleMark),
     ] {
         schedule[place] = byte;
-        assert_eq!(not_billed(&schedule, short, rate, 0), wanted);
+        assert_eq!(refused(&schedule, short, 0), wanted);
     }
-    assert_eq!(not_billed(&schedule[..121], short, rate, 0), Refusal::ScheduleLength);
+    assert_eq!(refused(&schedule[..121], short, 0), Refusal::ScheduleLength);
+}
+
+/// 16, 19, 15, 14, 17, 13, then 12 to 1: each fault is put before those that are there already.
+#[test]
+fn c14_refusals_in_their_order() {
+    let book = refusable(2);
+    let (bytes, room) = (book.bytes(), BILLS - 1);
+    assert_eq!(not_billed(&published(), &bytes, 1_000, room), Refusal::BufferShort);
+    assert_eq!(not_billed(&published(), &bytes, 1_001, room), Refusal::CostRate);
+    refused_15_to_1(book, room, |schedule, book, room| not_billed(schedule, book, 1_001, room));
     assert_eq!(not_billed(&[], &[], u64::MAX, 0), Refusal::ScheduleLength);
 }
 
@@ -1730,17 +1741,8 @@ fn c16_the_buffer() {
             let refusal = not_answered(&published(), &bytes, &list, room - short);
             assert_eq!(refusal, Refusal::AnswersShort, "{short} bytes short");
         }
-        for filling in [0x00, 0xff, 0x5a] {
-            for (start, behind) in [(0, 0), (1, 1), (3, 7), (7, 8), (5, 9), (2, 100_000)] {
-                let end = start + room;
-                let mut area = vec![filling; end + behind + 1];
-                let lent = &mut area[start..end + behind];
-                assert_eq!(packed_headroom(&published(), &bytes, &list, lent), room as u64);
-                let found = (0..count).map(|number| amount(&area[start..end], number));
-                assert!(found.eq(wanted.iter().copied()));
-                assert!(area[..start].iter().chain(&area[end..]).all(|&byte| byte == filling));
-            }
-        }
+        let wanted: Vec<u8> = wanted.into_iter().flat_map(u64::to_le_bytes).collect();
+        writes_alone(&wanted, |lent| packed_headroom(&published(), &bytes, &list, lent));
     }
 }
 
@@ -1748,51 +1750,16 @@ fn c16_the_buffer() {
 /// list is refused 16.
 #[test]
 fn c16_refusals_in_their_order() {
-    let mut schedule = published().to_vec();
-    let mut book = specialist(5, 0);
-    book.counterparty(graded());
-    let cash = RawMitigant { form: 1, flags: 31, counterparty: 1, value: 1 };
-    book.asset(retrocession(1, 0, 5), &[cash]);
-    let refused = |schedule: &[u8], book: &RawBook, list: &[u8]| {
-        not_answered(schedule, &book.bytes(), list, 7)
-    };
-    assert_eq!(refused(&schedule, &book, &[1, 0, 11]), Refusal::AnswersShort);
+    let book = refusable(1);
+    let bytes = book.bytes();
+    assert_eq!(not_answered(&published(), &bytes, &[1, 0, 11], 7), Refusal::AnswersShort);
     let lists: [&[u8]; 7] =
         [&[0, 0, 11], &[2, 0, 11], &[1, 0, 0], &[1, 0, 9], &[1, 0, 12], &[1, 0, 11, 1], &[1, 0]];
-    for list in lists {
-        assert_eq!(refused(&schedule, &book, list), Refusal::Questions);
-        assert_eq!(not_answered(&schedule, &book.bytes(), list, 1_600), Refusal::Questions);
+    for (list, room) in lists.into_iter().flat_map(|list| [(list, 7), (list, 1_600)]) {
+        assert_eq!(not_answered(&published(), &bytes, list, room), Refusal::Questions);
     }
     let list = [1, 0, 9];
-    type Fault = (fn(&mut RawBook), Refusal);
-    let faults: [Fault; 11] = [
-        (|book| book.excluded = 6, Refusal::StressedAssets),
-        (|book| book.total = 4, Refusal::ReinsuranceValues),
-        (|book| book.specialist = 0, Refusal::SpecialistEntry(1)),
-        (|book| book.assets[0].mitigants = 2, Refusal::MitigantCounts),
-        (|book| book.mitigants[0].form = 6, Refusal::Mitigant(1)),
-        (|book| book.assets[0].kind = 12, Refusal::Asset(1)),
-        (|book| book.counterparties[0].parent = 1, Refusal::Counterparty(1)),
-        (|book| book.excluded = MOST + 1, Refusal::BookAmounts),
-        (|book| book.counts = Some([1, 901, 1]), Refusal::BookCounts),
-        (|book| book.version = 3, Refusal::BookVersion),
-        (|book| book.specialist = 2, Refusal::BookMark),
-    ];
-    for (fault, wanted) in faults {
-        fault(&mut book);
-        assert_eq!(refused(&schedule, &book, &list), wanted);
-    }
-    let short = &book.bytes()[..39];
-    assert_eq!(not_answered(&schedule, short, &list, 0), Refusal::BookLength);
-    for (place, byte, wanted) in [
-        (6, 101, Refusal::ScheduleRates),
-        (4, 3, Refusal::ScheduleVersion),
-        (3, 1, Refusal::ScheduleMark),
-    ] {
-        schedule[place] = byte;
-        assert_eq!(not_answered(&schedule, short, &list, 0), wanted);
-    }
-    assert_eq!(not_answered(&schedule[..121], short, &list, 0), Refusal::ScheduleLength);
+    refused_15_to_1(book, 7, |schedule, book, room| not_answered(schedule, book, &list, room));
     assert_eq!(not_answered(&[], &[], &[9; 601], 0), Refusal::ScheduleLength);
 }
 

@@ -21,6 +21,19 @@ const SEEDED_CONVERSIONS: usize = 10_000;
 const SEEDED_BILLINGS: usize = 20_000;
 const SEEDED_ASKINGS: usize = 20_000;
 
+/// Changes the byte at a place, where there is one.
+fn change(bytes: &mut [u8], place: usize) {
+    bytes.iter_mut().skip(place).take(1).for_each(|byte| *byte ^= 1);
+}
+
+/// An answer as it is, the first byte of the buffer changed where it is a refusal.
+fn changing_by_refusal(packed: u64, lent: &mut Lent) -> u64 {
+    if let Some(Answer::Refused(_)) = Answer::unpacked(packed) {
+        change(lent.buffer(), 0);
+    }
+    packed
+}
+
 /// The first seeded input on which a subject parts from the library.
 fn caught(inputs: &Inputs, subject: Subject) -> Option<usize> {
     let mut seeded = inputs.fixed()..inputs.fixed() + SEEDED;
@@ -68,9 +81,7 @@ fn each_slip_of_the_converter_is_caught() {
 fn bytes_converted_out_of_place_are_caught() {
     type Spoil = fn(&[u8], usize, &mut [u8]);
     let slips: [(&str, Spoil); 5] = [
-        ("a byte after the book", |_, length, lent| {
-            lent.iter_mut().skip(length).take(1).for_each(|byte| *byte ^= 1);
-        }),
+        ("a byte after the book", |_, length, lent| change(lent, length)),
         ("the last byte left as it was", |before, length, lent| {
             lent[length - 1] = before[length - 1]
         }),
@@ -90,13 +101,8 @@ fn bytes_converted_out_of_place_are_caught() {
         };
         assert!(caught_converting(&inputs, wrong).is_some(), "{name} was not caught");
     }
-    let by_refusal: Subject = &|schedule, book, lent| {
-        let packed = second_convert(schedule, book, lent);
-        if let Some(Answer::Refused(_)) = Answer::unpacked(packed) {
-            lent.buffer().iter_mut().take(1).for_each(|byte| *byte ^= 1);
-        }
-        packed
-    };
+    let by_refusal: Subject =
+        &|schedule, book, lent| changing_by_refusal(second_convert(schedule, book, lent), lent);
     assert!(caught_converting(&inputs, by_refusal).is_some());
     let nothing: Subject = &|_, book, _| book.len() as u64;
     assert!(caught_converting(&inputs, nothing).is_some());
@@ -128,9 +134,7 @@ fn each_slip_of_the_bills_is_caught() {
 fn bills_out_of_place_are_caught() {
     type Spoil = fn(&[u8], &mut [u8]);
     let slips: [(&str, Spoil); 8] = [
-        ("a byte after the bills", |_, lent| {
-            lent.iter_mut().skip(BILLS).take(1).for_each(|byte| *byte ^= 1);
-        }),
+        ("a byte after the bills", |_, lent| change(lent, BILLS)),
         ("the last byte left as it was", |before, lent| lent[BILLS - 1] = before[BILLS - 1]),
         ("the last bill left as it was", |before, lent| {
             lent[BILLS - 8..BILLS].copy_from_slice(&before[BILLS - 8..BILLS]);
@@ -166,11 +170,7 @@ fn bills_out_of_place_are_caught() {
         assert!(caught_billing(&inputs, wrong).is_some(), "{name} was not caught");
     }
     let by_refusal: Biller = &|schedule, book, rate, lent| {
-        let packed = second_bills(schedule, book, rate, lent);
-        if packed >> 32 != 0 {
-            lent.buffer().iter_mut().take(1).for_each(|byte| *byte ^= 1);
-        }
-        packed
+        changing_by_refusal(second_bills(schedule, book, rate, lent), lent)
     };
     assert!(caught_billing(&inputs, by_refusal).is_some());
     for refusal in [Refusal::CostRate, Refusal::BufferShort] {
@@ -240,9 +240,7 @@ fn each_slip_of_the_answers_is_caught() {
 fn answers_out_of_place_are_caught() {
     type Spoil = fn(&[u8], usize, &mut [u8]);
     let slips: [(&str, Spoil); 9] = [
-        ("a byte after the answers", |_, length, lent| {
-            lent.iter_mut().skip(length).take(1).for_each(|byte| *byte ^= 1);
-        }),
+        ("a byte after the answers", |_, length, lent| change(lent, length)),
         ("the last byte left as it was", |before, length, lent| {
             lent[length - 1] = before[length - 1];
         }),
@@ -288,11 +286,7 @@ fn answers_out_of_place_are_caught() {
         assert!(caught_answering(&inputs, wrong).is_some(), "{name} was not caught");
     }
     let by_refusal: Answerer = &|schedule, book, questions, lent| {
-        let packed = second_headroom(schedule, book, questions, lent);
-        if packed >> 32 != 0 {
-            lent.buffer().iter_mut().take(1).for_each(|byte| *byte ^= 1);
-        }
-        packed
+        changing_by_refusal(second_headroom(schedule, book, questions, lent), lent)
     };
     assert!(caught_answering(&inputs, by_refusal).is_some());
     let with_place: Answerer =
@@ -388,18 +382,13 @@ fn bytes_written_out_of_place_are_caught() {
     let after_report: Subject = &|schedule, book, lent| {
         spoiling(schedule, book, lent, |lent, answer| {
             if let Answer::Written(length) = answer {
-                lent.buffer().iter_mut().skip(length).take(1).for_each(|byte| *byte ^= 1);
+                change(lent.buffer(), length);
             }
         })
     };
     is_caught("a byte after the report", after_report);
-    let by_refusal: Subject = &|schedule, book, lent| {
-        spoiling(schedule, book, lent, |lent, answer| {
-            if let Answer::Refused(_) = answer {
-                lent.buffer().iter_mut().take(1).for_each(|byte| *byte ^= 1);
-            }
-        })
-    };
+    let by_refusal: Subject =
+        &|schedule, book, lent| changing_by_refusal(second(schedule, book, lent), lent);
     is_caught("a byte changed by a refusal", by_refusal);
 }
 

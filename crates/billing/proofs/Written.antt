@@ -16,9 +16,8 @@ use Rattle.refusal.specs.declared.Checked.the-variants.{Fine}
 use Rattle.refusal.specs.declared.Answer.the-variants.{Written}
 use Rattle.rows.specs.Rows.{columns}
 use Rattle.figures.specs.Report.{charge}
-use Rattle.figures.specs.Read.{chargeIn, readExcess}
+use Rattle.figures.specs.Read.{readExcess}
 use Rattle.figures.specs.LeastCuts.{TierOf}
-use Rattle.figures.proofs.Written.{charge-in}
 use Rattle.figures.proofs.Least.{excess-read}
 use Rattle.bills.specs.Lines.{ExposureLine, amountIn, standsIn, excessLines}
 use Rattle.bills.specs.Bills.{deskCount, mostRate, billsSize, a3Excess, deskExcess, costOf, billBytes}
@@ -41,6 +40,7 @@ use Rattle.fund.specs.Tables.{FundTables}
 use Rattle.fund.specs.Figures.{fundOf}
 use Rattle.fund.proofs.Limits.{taken}
 use Rattle.report.specs.Answer.{fundIn, reportOf}
+use Rattle.report.proofs.Written.{report-charge}
 use Rattle.desks.specs.BookLines.{lineOf}
 use Rattle.standing.specs.Standing.{Stood}
 use Rattle.desks.specs.Pass.{lineCell, linesAt, Lined, Served}
@@ -80,10 +80,6 @@ module _ (schedule b : List ℕ) (acc : Accepted b) (byte : (k : ℕ) → getD b
   desk-most : (d : ℕ) → d < deskCount → excessIn schedule b d ≤ mostExcess
   desk-most d l = omega (arith, sum-within (excessIn schedule b) d deskCount l, sum-few)
 
-  charge-is : chargeIn (reportOf schedule b) ≡ charge (fundIn schedule b)
-  unfolding reportOf
-  charge-is = rw append-nil at (charge-in (fundIn schedule b) [])
-
   tier-is : (g t : ℕ) → TierOf (fundIn schedule b) g t → amountIn g t (excessLines (standsIn (fundIn schedule b)) (linesOf b)) ≡ readExcess (reportOf schedule b) g t
   unfolding reportOf
   tier-is g t h = line-excess (fundIn schedule b) (linesOf b) lines-are g t (h .tier) ∙ rw append-nil at (excess-read (fundIn schedule b) [] g t h)
@@ -91,8 +87,8 @@ module _ (schedule b : List ℕ) (acc : Accepted b) (byte : (k : ℕ) → getD b
   add-up : (rate : ℕ) (more : List ℕ) → AddUp schedule b rate (billsOf schedule b rate ++ more)
   unfolding billsOf costOf
   add-up rate more = record {
-    bills = read-bills (excessIn schedule b) rate more ∙ rw (sum-is, charge-is);
-    desks = sum-is ∙ sym charge-is;
+    bills = read-bills (excessIn schedule b) rate more ∙ rw (sum-is, report-charge schedule b);
+    desks = sum-is ∙ sym (report-charge schedule b);
     tiers = tier-is;
   }
 

@@ -34,7 +34,7 @@ counted t ks = sumOf (λ u. if u =? t then 1 else 0) ks
 
 -- ---- one tier
 
--- what stands after a tier is at most its limit
+-- what stands after a tier: all that would, or its limit
 pub next-is : (L e : ℕ → ℕ) (k s : ℕ) → s ≤ L k → next L e s k ≡ min (s + e k) (L k)
 unfolding next
 next-is L e k s h = omega arith

@@ -1,9 +1,9 @@
 -- The closed form, for any order along which limits do not fall.
---   rest-is no-limit   it is what gets through along the ranking; `most` past the tiers
---   added          an amount more in a tier raises a group's excesses by what of it has no room
---   group-tiers        it is the same over the tier itself and the tiers of the group alone
+--   rest-is no-limit         it is what gets through along the ranking; `most` past the tiers
+--   group-tiers              it is the same over the tier itself and the tiers of the group alone
+--   added                    an amount more in a tier raises a group's excesses by what of it has no room
 --   room-within room-least   at most `most`, and at most what each tier that ranks at or above has left over
---   room-same      it depends on the exposures in the tiers alone
+--   room-same                it depends on the exposures in the tiers alone
 use mathlib.Core.Bool.{Bool, true, false, _&&_, _||_}
 use mathlib.Core.List.{List, [], _∷_}
 use mathlib.Core.Path.{_≡_, refl, sym, ap, _∙_}

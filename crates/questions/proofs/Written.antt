@@ -26,7 +26,7 @@ use Rattle.fund.specs.declared.Fund as made
 use Rattle.fund.specs.Fund.{Passed, Exposed, RatedAs}
 use Rattle.fund.specs.Figures.{fundOf}
 use Rattle.report.specs.Answer.{fundIn}
-use Rattle.report.proofs.Written.{ordered}
+use Rattle.report.proofs.Written.{ordered, report-charge}
 use Rattle.questions.specs.Questions.{answerSize, countOf, placeAt, kindAt, questionAt, goodList}
 use Rattle.questions.specs.Tables.{answersAt}
 use Rattle.questions.specs.Headroom.{groupOf, tierFor, answerTo, answersOf, answerIn, AnswerRight, Asked}
@@ -98,6 +98,7 @@ module _ (schedule b questions : List ℕ) where
       right =
           let one = single-count questions k l h in
           record {
+            charge = report-charge schedule b;
             greatest = rw (read-answer more k h) is-greatest;
             alone = λ buffer n. sym (rw one at (fine schedule b (questionAt questions k) p f buffer (single-good questions k l h) (rw one n)));
             same = single-bytes more k h one;

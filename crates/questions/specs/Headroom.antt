@@ -1,7 +1,7 @@
 -- C-16: the answer to a schedule, a book, a list of questions and a lent buffer, and what stands in the buffer afterwards.
 --   asked groupOf tierFor            the exposure that a question speaks of, its group and its tier
 --   answerTo answersOf               the answer for a place and a kind; the answers' bytes
---   headroomCheck headroomAnswer     the checks 1 to 17, 20 and 21; the answers' length, or a refusal
+--   headroomCheck headroomAnswer     the checks 1 to 15, 17, 20 and 21; the answers' length, or a refusal
 --   answerIn AnswerRight             an answer as it is read; that it is the greatest amount, and the same when sent singly
 --   Asked                            all that the entry promises
 use mathlib.Core.List.{List, map}
@@ -16,6 +16,8 @@ use Rattle.refusal.specs.declared.Answer.{Answer}
 use Rattle.refusal.specs.declared.Answer.the-variants.{Written, Refused}
 use Rattle.refusal.specs.declared.Refusal.the-variants.{Questions, AnswersShort}
 use Rattle.refusal.specs.Chain.{refuse_unless_, _andThen_, answerBy}
+use Rattle.figures.specs.Report.{charge}
+use Rattle.figures.specs.Read.{chargeIn}
 use Rattle.headroom.specs.Headroom.{Greatest, headroomOf}
 use Rattle.schedule.specs.Check.{scheduleCheck}
 use Rattle.book.specs.Records.{C, counterpartyAt}
@@ -24,7 +26,7 @@ use Rattle.book.specs.Check.{bookCheck}
 use Rattle.exposure.specs.declared.Exposure.{Exposure}
 use Rattle.exposure.specs.Tier.{tierOf}
 use Rattle.exposure.specs.Values.{fundCheck}
-use Rattle.report.specs.Answer.{fundIn, writtenBy}
+use Rattle.report.specs.Answer.{fundIn, reportOf, writtenBy}
 use Rattle.questions.specs.Questions.{answerSize, countOf, placeAt, kindAt, questionAt, goodList}
 
 -- an exposure of that kind to that counterparty; its entry and months are 0, and its amount is what is asked for
@@ -66,10 +68,12 @@ abbrev pub answerIn : List ℕ → ℕ → ℕ
 answerIn R k = u64At R (answerSize * k)
 
 -- of question k, and of the bytes R:
--- greatest   with the answer added the charge is the report's; "one cent more raises it unless the answer is M"
+-- charge     the charge that is not to be raised is the one that the report states
+-- greatest   "the greatest amount up to M (..) without raising the charge; one cent more raises it unless the answer is M"
 -- alone      sent singly, the question is answered
 -- same       "each answer equals what the question gets when sent singly"
 pub record AnswerRight (schedule book questions R : List ℕ) (k : ℕ) : Type 0 where
+  pub charge : chargeIn (reportOf schedule book) ≡ charge (fundIn schedule book)
   pub greatest :
       Greatest (fundIn schedule book) (groupOf book (placeAt questions k)) (tierFor book (placeAt questions k) (kindAt questions k)) M (answerIn R k)
   pub alone : (buffer : ℕ) → answerSize ≤ buffer → headroomAnswer schedule book (questionAt questions k) buffer ≡ Written answerSize

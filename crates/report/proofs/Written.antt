@@ -1,6 +1,6 @@
 -- The report that was written out of the tables is that of the definitions, and demand 3 holds of its bytes.
 use mathlib.Core.Bool.{Bool, true, false}
-use mathlib.Core.List.{List, _++_}
+use mathlib.Core.List.{List, [], _++_, append-nil}
 use mathlib.Core.Path.{_≡_, refl, sym, ap, ap₂, _∙_}
 use Prim.Native.Nat.{ℕ, _+_, _*_, _-_, _≤_, _<_}
 use native.Mathlib.Nat.{pos-of-ne-zero}
@@ -24,10 +24,12 @@ use Rattle.cascade.proofs.Core.{Ordered}
 use Rattle.cascade.proofs.Ranking.{ranked-once, byLimit-ordered}
 use Rattle.rows.specs.Rows.{mostGroups, columns, row, row-at}
 use Rattle.figures.specs.Fund.{Fund}
-use Rattle.figures.specs.Report.{headSize, lineSize, report}
+use Rattle.figures.specs.Report.{headSize, lineSize, charge, report}
+use Rattle.figures.specs.Read.{chargeIn}
 use Rattle.figures.specs.LeastCuts.{LeastCuts}
 use Rattle.figures.specs.AgreeLaws.{Same, report-same}
 use Rattle.figures.proofs.Size.{report-long}
+use Rattle.figures.proofs.Written.{charge-in}
 use Rattle.figures.proofs.Least.{least-cuts}
 use Rattle.lines.specs.Table.{Heads, tableFund}
 use Rattle.lines.specs.Listing.{source}
@@ -53,6 +55,11 @@ ordered schedule book = byLimit-ordered (limit (scheduleOf schedule) (bookOf boo
 report-cuts : (schedule book more : List ℕ) → LeastCuts (fundIn schedule book) (reportOf schedule book ++ more)
 unfolding reportOf
 report-cuts schedule book more = least-cuts (fundIn schedule book) more (ordered schedule book)
+
+-- the charge in its bytes is the fund's
+pub report-charge : (schedule book : List ℕ) → chargeIn (reportOf schedule book) ≡ charge (fundIn schedule book)
+unfolding reportOf
+report-charge schedule book = rw append-nil at (charge-in (fundIn schedule book) [])
 
 module _ {b heads : List ℕ} (H : Headed b heads) {groups : ℕ} (eg : groups ≡ topsTo b (C b)) where
   head : (k : ℕ) → k < groups → Head b (C b) k (getD heads k 0)

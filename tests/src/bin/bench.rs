@@ -7,6 +7,7 @@
 //! Every call writes into the same buffer, which is not cleared in between. Before anything is
 //! timed, all subjects must agree on each book.
 
+use std::borrow::Borrow;
 use std::hint::black_box;
 use std::time::{Duration, Instant};
 use weightrose_tests::inputs::{at_desks, lifelike, Parents, Shape, KINDS};
@@ -117,16 +118,20 @@ fn best(subjects: &[Subject], books: &[Vec<u8>]) -> Vec<f64> {
     best
 }
 
-fn print_row(cells: &[String]) {
+fn print_row<S: Borrow<str>>(cells: &[S]) {
     println!("| {} |", cells.join(" | "));
+}
+
+fn print_head<S: Borrow<str>>(cells: &[S]) {
+    print_row(cells);
+    print_row(&vec!["---"; cells.len()]);
 }
 
 fn compare_subjects(subjects: &[Subject]) {
     let mut head = vec!["book".to_string(), "bytes".to_string()];
     head.extend(subjects.iter().map(|subject| format!("{}, µs", subject.name)));
     head.extend(subjects[1..].iter().map(|subject| format!("library / {}", subject.name)));
-    print_row(&head);
-    print_row(&vec!["---".to_string(); head.len()]);
+    print_head(&head);
     for Case { name, shape } in cases() {
         let books = books(&shape);
         check(name, subjects, &books);
@@ -149,15 +154,13 @@ fn as_version_2(book: &[u8]) -> Vec<u8> {
 fn versions_and_converter() {
     let convert: Report = |_, book, buffer| packed_convert(book, buffer);
     println!("\nThe library on both versions of the same books, and its converter:\n");
-    let head = [
+    print_head(&[
         "book",
         "report, version 1, µs",
         "version 2 / version 1",
         "converter, µs",
         "converter / report",
-    ];
-    print_row(&head.map(str::to_string));
-    print_row(&head.map(|_| "---".to_string()));
+    ]);
     for Case { name, shape } in cases() {
         let old = books(&shape);
         let new: Vec<Vec<u8>> = old.iter().map(|book| as_version_2(book)).collect();
@@ -202,16 +205,14 @@ fn desks_billed(name: &str, books: &[Vec<u8>]) -> usize {
 fn bills() {
     let bills: Report = |schedule, book, buffer| packed_bills(schedule, book, RATE, buffer);
     println!("\nThe library's bills, of books at desks and of the same books of version 1:\n");
-    let head = [
+    print_head(&[
         "book",
         "desks billed",
         "report, version 2, µs",
         "bills, version 2, µs",
         "bills / report, version 2",
         "bills / report, version 1",
-    ];
-    print_row(&head.map(str::to_string));
-    print_row(&head.map(|_| "---".to_string()));
+    ]);
     for Case { name, shape } in cases() {
         let (old, new) = (books(&shape), books_at_desks(&shape));
         let desks = desks_billed(name, &new);
@@ -270,7 +271,7 @@ fn answers() {
         packed_headroom(schedule, book, &list[..QUESTION * N], buffer)
     }
     println!("\nThe library's answers to dealers:\n");
-    let head = [
+    print_head(&[
         "book",
         "questions with room, of 200",
         "report, µs",
@@ -278,9 +279,7 @@ fn answers() {
         "200 answers / report",
         "1 answer / report",
         "no answers / report",
-    ];
-    print_row(&head.map(str::to_string));
-    print_row(&head.map(|_| "---".to_string()));
+    ]);
     for Case { name, shape } in cases() {
         let list = list(shape.counterparties);
         let books: Vec<Vec<u8>> =

@@ -1,11 +1,11 @@
 //! What the answers to dealers are compared on: schedules, books, lists of questions and the length
 //! of the buffer. Most of the seeded funds are near their limits, on either side.
 
-use super::billings::{bank, cash, concentrated, limits, of_reinsurers, turn_back};
-use super::edges::sample;
+use super::billings::{bank, cash, concentrated, limits, of_reinsurers, turned_back};
 use super::extremes::{self, sixteen_tiers};
-use super::{books, combinations, made, rates, specialist, versions};
-use super::{Family, Input, Inputs, Parents, Room, Shape};
+use super::faults::{every_set, refusable, refuse_12_to_17, refused_1_to_12};
+use super::{books, combinations, made, of_any_family, rates, versions};
+use super::{Input, Listed, Parents, Room, Shape};
 use crate::random::Random;
 use crate::raw::*;
 use crate::weightrose::{ANSWER, MOST_QUESTIONS, QUESTION};
@@ -23,13 +23,7 @@ pub struct Asking {
     pub questions: Vec<u8>,
 }
 
-/// All inputs of the answers under one seed: the fixed ones, then seeded ones without end.
-pub struct Askings {
-    seed: u64,
-    fixed: Vec<Asking>,
-    /// The fixed inputs of the report, some of which are asked about too.
-    reports: Vec<Input>,
-}
+pub type Askings = Listed<Asking>;
 
 impl Askings {
     pub fn new(seed: u64) -> Askings {
@@ -58,20 +52,7 @@ impl Askings {
             sizes(),
             largest(),
         ];
-        let fixed = parts.into_iter().flatten().collect();
-        Askings { seed, fixed, reports: Inputs::new(seed).fixed }
-    }
-
-    /// How many inputs do not hang on the seed.
-    pub fn fixed(&self) -> usize {
-        self.fixed.len()
-    }
-
-    pub fn get(&self, number: usize) -> Asking {
-        match self.fixed.get(number) {
-            Some(asking) => asking.clone(),
-            None => seeded(&mut Random::new(self.seed, APART + number as u64), &self.reports),
-        }
+        Listed::of(seed, APART, parts, seeded)
     }
 }
 
@@ -257,9 +238,7 @@ fn rooms() -> Vec<Asking> {
 
 /// An input that is accepted, and can be refused for anything.
 fn whole() -> Asking {
-    let mut book = RawBook { version: 2, specialist: 1, ..sample() };
-    book.assets[0].entry = 3;
-    asking("refusals", &limits(100, 0), &book, &[ask(4, 11), ask(1, 4), ask(2, 6)])
+    asking("refusals", &limits(100, 0), &refusable(), &[ask(4, 11), ask(1, 4), ask(2, 6)])
 }
 
 /// What 20 turns back: a byte less, a byte more, a place, a kind, or too many.
@@ -274,30 +253,13 @@ const BAD_LISTS: [fn(&mut Vec<u8>); 6] = [
 
 /// Each refusal of 1 to 12 beside good and bad lists and buffers, under both versions of a schedule.
 fn refusals_1_to_12() -> Vec<Asking> {
-    type Fault = fn(&mut Input);
-    let faults: [Fault; 13] = [
-        |_| (),
-        |input| input.schedule.truncate(121),
-        |input| input.schedule[2] = b'B',
-        |input| input.schedule[4] = 3,
-        |input| input.schedule[6] = 101,
-        |input| input.book.truncate(39),
-        |input| input.book[15] = 1,
-        |input| input.book[4] = 3,
-        |input| input.book.push(0),
-        |input| input.book[23] = 1,
-        |input| input.book[40 + 3] = 8,
-        |input| input.book[40 + 4 * 4] = 12,
-        |input| input.book[40 + 4 * 4 + 48 * 4] = 6,
-    ];
     let mut inputs = Vec::new();
-    for (fault, version) in faults.into_iter().flat_map(|fault| [(fault, 1), (fault, 2)]) {
+    for refuse in refused_1_to_12() {
         let good: fn(&mut Vec<u8>) = |_| ();
         for spoil in BAD_LISTS.into_iter().chain([good]) {
             for room in [24, 23, 0] {
                 let mut asking = in_room(&whole(), room);
-                asking.input.schedule[4] = version;
-                fault(&mut asking.input);
+                refuse(&mut asking.input);
                 spoil(&mut asking.questions);
                 inputs.push(asking);
             }
@@ -310,29 +272,17 @@ fn refusals_1_to_12() -> Vec<Asking> {
 /// 21.
 fn refusals_12_to_21() -> Vec<Asking> {
     let with = |faults: [bool; 7], spoil: fn(&mut Vec<u8>)| {
-        let [mitigant, counts, entry, values, stressed, list, buffer] = faults;
+        let [of_book @ .., list, buffer] = faults;
         let mut asking = whole();
-        let book = &mut asking.input.book;
-        let (assets, mitigants) = (40 + 4 * 4, 40 + 4 * 4 + 48 * 4);
-        book[mitigants] += 4 * u8::from(mitigant);
-        book[assets + 6] += u8::from(counts);
-        book[12] = u8::from(!entry);
-        if values {
-            book[16..24].copy_from_slice(&999u64.to_le_bytes());
-        }
-        if stressed {
-            book[32..40].copy_from_slice(&MOST.to_le_bytes());
-        }
+        refuse_12_to_17(&mut asking.input.book, of_book);
         if list {
             spoil(&mut asking.questions);
         }
         let room = answers(&asking.questions);
         in_room(&asking, room - usize::from(buffer))
     };
-    let sets = |spoil| {
-        (0..128).map(move |set| with(std::array::from_fn(|bit| set >> bit & 1 == 1), spoil))
-    };
-    BAD_LISTS.into_iter().flat_map(sets).collect()
+    let with_each = |spoil| every_set().map(move |faults| with(faults, spoil));
+    BAD_LISTS.into_iter().flat_map(with_each).collect()
 }
 
 /// Each kind with each of the 320 sorts of counterparty, fifty questions a list: each a group of its
@@ -642,17 +592,14 @@ fn every_combination() -> Vec<Asking> {
 /// with rates that pass in the second alone, beside good and bad lists and buffers.
 fn schedule_versions() -> Vec<Asking> {
     let mut inputs = Vec::new();
-    for version in [0, 1, 2, 3, 256, 257, 258, 513, 65_535] {
-        for rates in [RawSchedule::published(), RawSchedule::published().tenfold()] {
-            let schedule = RawSchedule { version, ..rates };
-            let book = sixteen_tiers(1, 100, 20_000);
-            let list = ask_all(1..=3);
-            let good = asking("schedule versions", &schedule, &book, &list);
-            let mut bad = good.clone();
-            bad.questions.pop();
-            for room in [answers(&good.questions), answers(&good.questions) - 1, 0] {
-                inputs.extend([&good, &bad].map(|asking| in_room(asking, room)));
-            }
+    for schedule in rates::few_versions() {
+        let book = sixteen_tiers(1, 100, 20_000);
+        let list = ask_all(1..=3);
+        let good = asking("schedule versions", &schedule, &book, &list);
+        let mut bad = good.clone();
+        bad.questions.pop();
+        for room in [answers(&good.questions), answers(&good.questions) - 1, 0] {
+            inputs.extend([&good, &bad].map(|asking| in_room(asking, room)));
         }
     }
     inputs
@@ -714,15 +661,10 @@ fn seeded(random: &mut Random, reports: &[Input]) -> Asking {
     let input = match random.below(100) {
         0..=9 => reports[random.index(reports.len())].clone(),
         10..=29 => {
-            let family = random.pick::<Family>(&[books::random, specialist::random, rates::random]);
-            let (schedule, book) = family(random);
+            let (schedule, book) = of_any_family(random);
             made(random, schedule, book)
         }
-        30..=34 => {
-            let (schedule, mut book) = concentrated(random);
-            turn_back(random, &mut book);
-            Input::new("turned back", &schedule, &book)
-        }
+        30..=34 => turned_back(random),
         35..=44 => {
             let (schedule, book) = concentrated(random);
             Input::new("concentrated", &schedule, &book)

@@ -3,8 +3,9 @@
 
 use super::edges::sample;
 use super::extremes::{self, sixteen_tiers};
-use super::{books, combinations, made, rates, specialist, versions};
-use super::{Family, Input, Inputs, Parents, Room, Shape};
+use super::faults::{every_set, refusable, refuse_12_to_17, refused_1_to_12};
+use super::{books, combinations, made, of_any_family, rates, versions};
+use super::{Input, Listed, Parents, Room, Shape};
 use crate::random::Random;
 use crate::raw::*;
 use crate::weightrose::BILLS;
@@ -19,13 +20,7 @@ pub struct Billing {
     pub rate: u64,
 }
 
-/// All inputs of the bills under one seed: the fixed ones, then seeded ones without end.
-pub struct Billings {
-    seed: u64,
-    fixed: Vec<Billing>,
-    /// The fixed inputs of the report, some of which are billed too.
-    reports: Vec<Input>,
-}
+pub type Billings = Listed<Billing>;
 
 impl Billings {
     pub fn new(seed: u64) -> Billings {
@@ -50,20 +45,7 @@ impl Billings {
             sizes(),
             largest(),
         ];
-        let fixed = parts.into_iter().flatten().collect();
-        Billings { seed, fixed, reports: Inputs::new(seed).fixed }
-    }
-
-    /// How many inputs do not hang on the seed.
-    pub fn fixed(&self) -> usize {
-        self.fixed.len()
-    }
-
-    pub fn get(&self, number: usize) -> Billing {
-        match self.fixed.get(number) {
-            Some(billing) => billing.clone(),
-            None => seeded(&mut Random::new(self.seed, APART + number as u64), &self.reports),
-        }
+        Listed::of(seed, APART, parts, seeded)
     }
 }
 
@@ -332,8 +314,7 @@ fn without_limit() -> Vec<Billing> {
 
 /// A billing that is accepted, and can be refused for anything.
 fn whole() -> Billing {
-    let mut book = RawBook { version: 2, specialist: 1, ..sample() };
-    book.assets[0].entry = 3;
+    let mut book = refusable();
     for (desk, asset) in (1..).zip(&mut book.assets) {
         asset.desk = desk;
     }
@@ -343,29 +324,12 @@ fn whole() -> Billing {
 /// Each refusal of 1 to 12 beside good and bad rates and buffers, under both versions of a
 /// schedule.
 fn refusals_1_to_12() -> Vec<Billing> {
-    type Fault = fn(&mut Input);
-    let faults: [Fault; 13] = [
-        |_| (),
-        |input| input.schedule.truncate(121),
-        |input| input.schedule[2] = b'B',
-        |input| input.schedule[4] = 3,
-        |input| input.schedule[6] = 101,
-        |input| input.book.truncate(39),
-        |input| input.book[15] = 1,
-        |input| input.book[4] = 3,
-        |input| input.book.push(0),
-        |input| input.book[23] = 1,
-        |input| input.book[40 + 3] = 8,
-        |input| input.book[40 + 4 * 4] = 12,
-        |input| input.book[40 + 4 * 4 + 48 * 4] = 6,
-    ];
     let mut inputs = Vec::new();
-    for (fault, version) in faults.into_iter().flat_map(|fault| [(fault, 1), (fault, 2)]) {
+    for refuse in refused_1_to_12() {
         for rate in [0, 1_000, 1_001, u64::MAX] {
             for room in [BILLS, BILLS - 1, 0] {
                 let mut billing = in_room(&Billing { rate, ..whole() }, room);
-                billing.input.schedule[4] = version;
-                fault(&mut billing.input);
+                refuse(&mut billing.input);
                 inputs.push(billing);
             }
         }
@@ -376,24 +340,14 @@ fn refusals_1_to_12() -> Vec<Billing> {
 /// Each set of refusals 12 to 17 and 19 at once, checked in the order 12, 13, 17, 14, 15, 19, 16.
 fn refusals_12_to_19() -> Vec<Billing> {
     let with = |faults: [bool; 7]| {
-        let [mitigant, counts, entry, values, stressed, rate, buffer] = faults;
+        let [of_book @ .., rate, buffer] = faults;
         let mut billing = whole();
-        let book = &mut billing.input.book;
-        let (assets, mitigants) = (40 + 4 * 4, 40 + 4 * 4 + 48 * 4);
-        book[mitigants] += 4 * u8::from(mitigant);
-        book[assets + 6] += u8::from(counts);
-        book[12] = u8::from(!entry);
-        if values {
-            book[16..24].copy_from_slice(&999u64.to_le_bytes());
-        }
-        if stressed {
-            book[32..40].copy_from_slice(&MOST.to_le_bytes());
-        }
+        refuse_12_to_17(&mut billing.input.book, of_book);
         billing.rate += u64::from(rate);
         billing.input.room = Room::Bytes(BILLS - usize::from(buffer));
         billing
     };
-    (0..128).map(|set| with(std::array::from_fn(|bit| set >> bit & 1 == 1))).collect()
+    every_set().map(with).collect()
 }
 
 /// Each sort of counterparty with each asset and each mitigant, at desks and under one limit that
@@ -413,13 +367,10 @@ fn every_combination() -> Vec<Billing> {
 /// with rates that pass in the second alone, beside good and bad cost rates and buffers.
 fn schedule_versions() -> Vec<Billing> {
     let mut inputs = Vec::new();
-    for version in [0, 1, 2, 3, 256, 257, 258, 513, 65_535] {
-        for rates in [RawSchedule::published(), RawSchedule::published().tenfold()] {
-            let schedule = RawSchedule { version, ..rates };
-            let book = sixteen_tiers(1, 1_000, 2_000);
-            for (rate, room) in [(437, BILLS), (437, BILLS - 1), (1_001, BILLS), (1_001, 0)] {
-                inputs.push(in_room(&billing("schedule versions", &schedule, &book, rate), room));
-            }
+    for schedule in rates::few_versions() {
+        let book = sixteen_tiers(1, 1_000, 2_000);
+        for (rate, room) in [(437, BILLS), (437, BILLS - 1), (1_001, BILLS), (1_001, 0)] {
+            inputs.push(in_room(&billing("schedule versions", &schedule, &book, rate), room));
         }
     }
     inputs
@@ -540,18 +491,16 @@ fn seeded(random: &mut Random, reports: &[Input]) -> Billing {
             input
         }
         12..=31 => {
-            let family = random.pick::<Family>(&[books::random, specialist::random, rates::random]);
-            let (schedule, mut book) = family(random);
+            let (schedule, mut book) = of_any_family(random);
             if random.chance(70) {
                 versions::at_desks(random, &mut book);
             }
             made(random, schedule, book)
         }
         32..=37 => {
-            let (schedule, mut book) = concentrated(random);
-            turn_back(random, &mut book);
+            let input = turned_back(random);
             rate = random.pick(&[0, 1_000, 1_001, 1_001, u64::MAX]);
-            Input::new("turned back", &schedule, &book)
+            input
         }
         38..=52 => {
             let (schedule, book) = concentrated(random);
@@ -597,8 +546,9 @@ pub fn concentrated(random: &mut Random) -> (RawSchedule, RawBook) {
     (low_limits(random, scale), book)
 }
 
-/// What 13, 17, 14 and 15 turn back, often several of them.
-pub fn turn_back(random: &mut Random, book: &mut RawBook) {
+/// A concentrated fund that 13, 17, 14 or 15 turns back, often several of them.
+pub fn turned_back(random: &mut Random) -> Input {
+    let (schedule, mut book) = concentrated(random);
     let place = random.index(book.assets.len());
     let asset = &mut book.assets[place];
     if random.chance(30) {
@@ -614,6 +564,7 @@ pub fn turn_back(random: &mut Random, book: &mut RawBook) {
     if random.chance(60) {
         book.excluded = random.between(book.total, MOST);
     }
+    Input::new("turned back", &schedule, &book)
 }
 
 /// Makes most assets reinsurance.

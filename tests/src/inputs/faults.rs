@@ -1,5 +1,6 @@
 //! Valid schedules and books made bad: by fields, several at once, or by bytes.
 
+use super::edges::sample;
 use super::Input;
 use crate::random::Random;
 use crate::raw::*;
@@ -157,4 +158,62 @@ fn damage(random: &mut Random, bytes: &mut Vec<u8>) {
             bytes.remove(place);
         }
     }
+}
+
+/// A book that is accepted, and can be refused for anything.
+pub fn refusable() -> RawBook {
+    let mut book = RawBook { version: 2, specialist: 1, ..sample() };
+    book.assets[0].entry = 3;
+    book
+}
+
+/// Where the sample's assets and its mitigants start.
+const ASSETS: usize = 40 + 4 * 4;
+const MITIGANTS: usize = ASSETS + 48 * 4;
+
+/// No fault of the refusable book, then those of refusals 1 to 12, each under both versions of a
+/// schedule.
+pub fn refused_1_to_12() -> impl Iterator<Item = impl Fn(&mut Input)> {
+    type Fault = fn(&mut Input);
+    let faults: [Fault; 13] = [
+        |_| (),
+        |input| input.schedule.truncate(121),
+        |input| input.schedule[2] = b'B',
+        |input| input.schedule[4] = 3,
+        |input| input.schedule[6] = 101,
+        |input| input.book.truncate(39),
+        |input| input.book[15] = 1,
+        |input| input.book[4] = 3,
+        |input| input.book.push(0),
+        |input| input.book[23] = 1,
+        |input| input.book[40 + 3] = 8,
+        |input| input.book[ASSETS] = 12,
+        |input| input.book[MITIGANTS] = 6,
+    ];
+    let under = |fault: Fault, version| {
+        move |input: &mut Input| {
+            input.schedule[4] = version;
+            fault(input);
+        }
+    };
+    faults.into_iter().flat_map(move |fault| [1, 2].map(|version| under(fault, version)))
+}
+
+/// The refusable book's bytes with any of the faults of refusals 12, 13, 17, 14 and 15.
+pub fn refuse_12_to_17(book: &mut [u8], faults: [bool; 5]) {
+    let [mitigant, counts, entry, values, stressed] = faults;
+    book[MITIGANTS] += 4 * u8::from(mitigant);
+    book[ASSETS + 6] += u8::from(counts);
+    book[12] = u8::from(!entry);
+    if values {
+        book[16..24].copy_from_slice(&999u64.to_le_bytes());
+    }
+    if stressed {
+        book[32..40].copy_from_slice(&MOST.to_le_bytes());
+    }
+}
+
+/// Each set of seven faults.
+pub fn every_set() -> impl Iterator<Item = [bool; 7]> {
+    (0..128).map(|set| std::array::from_fn(|bit| set >> bit & 1 == 1))
 }

@@ -82,6 +82,45 @@ impl Inputs {
     }
 }
 
+/// All inputs of the bills or of the answers under one seed: the fixed ones, then seeded ones
+/// without end.
+pub struct Listed<T> {
+    seed: u64,
+    /// Seeded inputs of the other entries have other numbers.
+    apart: u64,
+    fixed: Vec<T>,
+    /// The fixed inputs of the report, some of which are taken too.
+    reports: Vec<Input>,
+    seeded: fn(&mut Random, &[Input]) -> T,
+}
+
+impl<T: Clone> Listed<T> {
+    fn of(
+        seed: u64,
+        apart: u64,
+        parts: impl IntoIterator<Item = Vec<T>>,
+        seeded: fn(&mut Random, &[Input]) -> T,
+    ) -> Listed<T> {
+        let fixed = parts.into_iter().flatten().collect();
+        Listed { seed, apart, fixed, reports: Inputs::new(seed).fixed, seeded }
+    }
+
+    /// How many inputs do not hang on the seed.
+    pub fn fixed(&self) -> usize {
+        self.fixed.len()
+    }
+
+    pub fn get(&self, number: usize) -> T {
+        match self.fixed.get(number) {
+            Some(input) => input.clone(),
+            None => {
+                let random = &mut Random::new(self.seed, self.apart + number as u64);
+                (self.seeded)(random, &self.reports)
+            }
+        }
+    }
+}
+
 /// Makes a seeded schedule and book.
 type Family = fn(&mut Random) -> (RawSchedule, RawBook);
 
@@ -91,6 +130,11 @@ fn family(number: usize) -> Family {
         4 => specialist::random,
         _ => books::random,
     }
+}
+
+/// A book as the report gets it.
+fn of_any_family(random: &mut Random) -> (RawSchedule, RawBook) {
+    random.pick::<Family>(&[books::random, specialist::random, rates::random])(random)
 }
 
 fn seeded(random: &mut Random, family: Family) -> Input {

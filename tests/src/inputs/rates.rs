@@ -49,19 +49,27 @@ fn every_tier(vaf: u64) -> RawBook {
     RawBook { base: vaf as i64, ..sixteen_tiers(1, 1, vaf) }
 }
 
-/// Each value of either byte of the version, with rates that pass in both versions and with rates
-/// that pass in the second alone.
+/// A version with rates that pass in both versions, and with such that pass in the second alone.
+fn of_version(version: u16) -> [RawSchedule; 2] {
+    [published(1), published(2)].map(|rates| RawSchedule { version, ..rates })
+}
+
+/// Each value of either byte of the version, with both sorts of rates.
 fn versions() -> Vec<Input> {
     let mut inputs = Vec::new();
     for byte in 0..=255 {
         for version in [byte, byte << 8 | 1, byte << 8 | 2] {
-            for rates in [published(1), published(2)] {
-                let schedule = RawSchedule { version, ..rates };
+            for schedule in of_version(version) {
                 inputs.push(Input::new("schedule versions", &schedule, &sample()));
             }
         }
     }
     inputs
+}
+
+/// A few versions that pass and such that do not, each with both sorts of rates.
+pub fn few_versions() -> impl Iterator<Item = RawSchedule> {
+    [0, 1, 2, 3, 256, 257, 258, 513, 65_535].into_iter().flat_map(of_version)
 }
 
 /// Rates beside the most of either version, some of whose tenfold is small in 16 bits, at each
