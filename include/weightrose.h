@@ -185,10 +185,11 @@ extern "C" {
  * on it is in WEIGHTROSE_TIER_I_REINSURANCE, as reinsurance without an entry class. The limits of
  * the three tiers are 500, 330 and 170 per mille of VAF', rounded down to a cent: they are not the
  * schedule's, and neither its rows and percents nor the capital base change them. The three rank
- * among a group's tiers by their limits, as all do. Attachment A, paragraph 3, does not count
- * them; from 24 months on it counts the retrocession, as all in WEIGHTROSE_TIER_I_REINSURANCE. In
- * all else (stresses, netting, mitigants and how much they may cover) a retrocession is
- * reinsurance like any other, and byte 12 changes nothing for assets of another entry class.
+ * among a group's tiers by their limits before rounding, as all do. Attachment A, paragraph 3, does
+ * not count them; from 24 months on it counts the retrocession, as all in
+ * WEIGHTROSE_TIER_I_REINSURANCE. In all else (stresses, netting, mitigants and how much they may
+ * cover) a retrocession is reinsurance like any other, and byte 12 changes nothing for assets of
+ * another entry class.
  */
 
 /* ========================================================================== */
@@ -336,13 +337,13 @@ weightrose_convert(const uint8_t *book, size_t book_len,
  * of the mitigant's counterparty and in the tier of what it becomes there, as in the report, the
  * remainder in the group and tier of the asset itself; all are of the asset's desk, which is 0 in a
  * book of version 1. What stands in a tier of a group is WEIGHTROSE_LINE_EXPOSURE less
- * WEIGHTROSE_LINE_EXCESS of the report's line. It is given to the exposure lines in that tier of
- * that group, asset by asset in book order: to each its whole amount, as long as so much is left;
- * to the next one the rest, and to those behind it nothing. What a line is not given is its excess.
- * Linked assets have no lines, and exposures without limit no excess. A desk's excess is
- * the sum of its lines' excesses; that of desk 0 has besides, in books of either version, what
- * WEIGHTROSE_HEADER_A3_SUM has above WEIGHTROSE_HEADER_A3_LIMIT, if anything. All desks' excesses
- * add up to WEIGHTROSE_HEADER_CHARGE.
+ * WEIGHTROSE_LINE_EXCESS of the report's line; where lines print the same limit, their rank decides
+ * what stands in which. It is given to the exposure lines in that tier of that group, asset by asset
+ * in book order: to each its whole amount, as long as so much is left; to the next one the rest, and
+ * to those behind it nothing. What a line is not given is its excess. Linked assets have no lines,
+ * and exposures without limit no excess. A desk's excess is the sum of its lines' excesses; that of
+ * desk 0 has besides, in books of either version, what WEIGHTROSE_HEADER_A3_SUM has above
+ * WEIGHTROSE_HEADER_A3_LIMIT, if anything. All desks' excesses add up to WEIGHTROSE_HEADER_CHARGE.
  *
  * Bills: desk by desk from 0, the excesses of that desk and of all before it are added up,
  * multiplied by the rate, divided by 10,000 and rounded down to a cent; the bill is that figure
@@ -388,11 +389,12 @@ weightrose_bills(const uint8_t *schedule, size_t schedule_len,
  * alone. A charge that is there already takes no room by itself: an excess under Attachment A,
  * paragraph 3, or of another group changes no answer. It follows that the answer is the least of
  * WEIGHTROSE_MOST_AMOUNT and of the rooms at the tier itself and at each tier of the group that
- * ranks above it, as the report's lines rank. The room at a tier is its limit less what stands in
- * it and in all tiers of the group that rank below it, and what stands in a tier is
+ * ranks above it, as the report's lines rank. The room at a tier is its limit in cents less what
+ * stands in it and in all tiers of the group that rank below it, and what stands in a tier is
  * WEIGHTROSE_LINE_EXPOSURE less WEIGHTROSE_LINE_EXCESS of the report's line, 0 where there is none.
  * The answer is 0, then, at a tier with an excess and at every tier of its group that ranks below
- * it, even at one that is within its own limit.
+ * it, even at one that is within its own limit. It is the same whichever of two tiers with equal
+ * printed limits ranks first.
  *
  * All questions go through one reading of the book, and each is answered by itself, as if nothing
  * was bought on the answers before it: its answer is the one that it gets in a list of its own.
@@ -435,13 +437,30 @@ enum weightrose_header_field {
 	WEIGHTROSE_HEADER_CHARGE = 64        /* the asset concentration charge */
 };
 
+/*
+ * Lines stand group by group, by the place of the topmost parent, and within a group by the rank of
+ * their tiers, lowest first. Tiers rank by their limits before these are rounded down to cents, and
+ * by their numbers only where they are equal even then. So two lines of a group that print the same
+ * limit may stand with the higher tier number first: with VAF 41, VAF' 40 and no capital base the
+ * published schedule gives WEIGHTROSE_TIER_I 1.025 cents and WEIGHTROSE_TIER_I_REINSURANCE 1.000,
+ * both print 1, and the second stands first. Limit, left and excess are whole cents all the same,
+ * and left is what the printed limit leaves.
+ *
+ * Who recomputes the order compares exact products, not WEIGHTROSE_LINE_LIMIT: the greatest of the
+ * row's two VAF rates times VAF or VAF', its base rate times the capital base (0 where that is
+ * negative) and its fixed amount, times the percent kept. In row d the first of these is lessened by
+ * all that the fund has in WEIGHTROSE_TIER_C of kind 3, not below 0. With rates in ten-thousandths,
+ * of which a rate per mille counts ten, the fixed amount and that sum times 10,000, and 100 per cent
+ * where all is kept, that is a whole number of millionths of a cent. It fits in 64 bits unsigned,
+ * and not in a double.
+ */
 enum weightrose_line_field {
 	WEIGHTROSE_LINE_TOP = 0,      /* place of the group's topmost parent, from 1 */
 	WEIGHTROSE_LINE_TIER = 2,     /* enum weightrose_tier */
 	WEIGHTROSE_LINE_TIER_SET = 4, /* bit n, 0 to 15: the group has a line of tier n */
 	WEIGHTROSE_LINE_EXPOSURE = 8,
-	WEIGHTROSE_LINE_LIMIT = 16,
-	WEIGHTROSE_LINE_LEFT = 24,    /* the limit, less what stands in the group's lower tiers */
+	WEIGHTROSE_LINE_LIMIT = 16,   /* rounded down to a cent; lines rank by it before that */
+	WEIGHTROSE_LINE_LEFT = 24,    /* the limit, less what stands in the group's lines before */
 	WEIGHTROSE_LINE_EXCESS = 32   /* what of the exposure passes that */
 };
 

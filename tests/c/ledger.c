@@ -6,9 +6,10 @@
  * checks itself against document 01's figures (T2, T4, T5 and the table of refusals) and those of
  * document 02's specialist funds (C-11), converts its book to version 2 and books its assets by
  * desk (C-13), bills the desks for the capital that their excesses tie up (C-14), moves its
- * schedule to rates in ten-thousandths (C-15), asks how much more its dealers may buy (C-16), and
- * ends with status 1 where anything differs. Each block is as long as its bytes, so that a memory
- * checker sees any byte read or written past its end.
+ * schedule to rates in ten-thousandths (C-15), asks how much more its dealers may buy (C-16), looks
+ * at lines whose limits are equal in cents alone (C-17), and ends with status 1 where anything
+ * differs. Each block is as long as its bytes, so that a memory checker sees any byte read or
+ * written past its end.
  */
 #include "weightrose.h"
 
@@ -1283,6 +1284,52 @@ dealers_in_other_buffers(void)
 	free(list.bytes);
 }
 
+/* ---- Ties before rounding ---- */
+
+static void
+expect_two_lines(const char *name, const struct ledger *ledger, const struct line *lines)
+{
+	struct block report = new_report(name, ledger);
+
+	expect(weightrose_u16(report.bytes + WEIGHTROSE_HEADER_LINES) == 2, name);
+	expect_line(name, weightrose_line(report.bytes, 0), &lines[0]);
+	expect_line(name, weightrose_line(report.bytes, 1), &lines[1]);
+	expect(weightrose_u64(report.bytes + WEIGHTROSE_HEADER_CHARGE) == 4, name);
+	free(report.bytes);
+}
+
+/*
+ * VAF 41, VAF' 40 and no capital base: tier i has a limit of 1.025 cents and tier i reinsurance one
+ * of 1.000. Both print 1, and the second stands first. With VAF' 41 they are equal before rounding
+ * too, and stand by number.
+ */
+static void
+near_tie(void)
+{
+	enum { TIERS = 1 << WEIGHTROSE_TIER_I | 1 << WEIGHTROSE_TIER_I_REINSURANCE };
+	static const struct counterparty names[] = { { NO_PARENT, 0, UNGRADED, 0 } };
+	static const struct asset assets[] = {
+		{ ANY_OTHER, 1, 2, 0, 0, NO_ENTRY, 0 },
+		{ REINSURANCE, 1, 0, 3, 0, NO_ENTRY, 0 },
+	};
+	static const struct line by_fraction[] = {
+		{ 1, WEIGHTROSE_TIER_I_REINSURANCE, TIERS, { 3, 1, 1, 2 } },
+		{ 1, WEIGHTROSE_TIER_I, TIERS, { 2, 1, 0, 2 } },
+	};
+	static const struct line by_number[] = {
+		{ 1, WEIGHTROSE_TIER_I, TIERS, { 2, 1, 1, 1 } },
+		{ 1, WEIGHTROSE_TIER_I_REINSURANCE, TIERS, { 3, 1, 0, 3 } },
+	};
+	struct ledger ledger = ledger_of(names, COUNT(names), assets, COUNT(assets));
+
+	ledger.total_assets = 41;
+	ledger.capital_base = 0;
+	ledger.excluded_assets = 4;
+	expect_two_lines("C-17", &ledger, by_fraction);
+	ledger.excluded_assets = 3;
+	expect_two_lines("C-17, equal before rounding", &ledger, by_number);
+}
+
 static void
 published_into_too_little(void)
 {
@@ -1316,6 +1363,7 @@ main(void)
 	dealers();
 	dealers_refused();
 	dealers_in_other_buffers();
+	near_tie();
 	published_into_too_little();
 	printf("ledger: %d failures\n", failures);
 	return failures ? EXIT_FAILURE : EXIT_SUCCESS;

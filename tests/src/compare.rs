@@ -6,7 +6,7 @@ use crate::inputs::{Asking, Billing, Input, Room};
 use crate::random::Random;
 use crate::raw::{RawAsset, RawQuestion, MOST};
 use crate::second;
-use crate::weightrose::{self, Answer, ANSWER, LARGEST_REPORT, QUESTION};
+use crate::weightrose::{self, Answer, ANSWER, HEADER, LARGEST_REPORT, LINE, QUESTION};
 
 /// Guard bytes on each side of a lent buffer.
 pub const GUARD: usize = 64;
@@ -84,18 +84,119 @@ impl std::fmt::Display for Difference {
     }
 }
 
+impl Difference {
+    fn of(one: &Outcome, other: &Outcome) -> Difference {
+        let byte = one.area.iter().zip(&other.area).position(|(one, other)| one != other);
+        Difference {
+            answers: [one.answer, other.answer],
+            byte: byte.map(|place| place as i64 - GUARD as i64),
+        }
+    }
+}
+
 /// Both subjects on one input: what both left, or where they part.
 pub fn compare(one: Subject, other: Subject, input: &Input) -> Result<Outcome, Difference> {
     let room = room(input);
-    let (one, other) = (outcome(one, input, room), outcome(other, input, room));
+    let [one, other] = [one, other].map(|subject| outcome(subject, input, room));
     if one == other {
-        return Ok(one);
+        Ok(one)
+    } else {
+        Err(Difference::of(&one, &other))
     }
-    let byte = one.area.iter().zip(&other.area).position(|(one, other)| one != other);
-    Err(Difference {
-        answers: [one.answer, other.answer],
-        byte: byte.map(|place| place as i64 - GUARD as i64),
+}
+
+/// The same with a subject from before C-17: what the first left, and whether the other left the
+/// same but for C-17.
+pub fn compare_before(
+    one: Subject,
+    before: Subject,
+    input: &Input,
+) -> Result<(Outcome, bool), Difference> {
+    let room = room(input);
+    let [one, before] = [one, before].map(|subject| outcome(subject, input, room));
+    let other_order = other_order(&one, &before);
+    if one == before || other_order {
+        Ok((one, other_order))
+    } else {
+        Err(Difference::of(&one, &before))
+    }
+}
+
+/// The lines of a report in runs: those of one group, one behind the other, that print the same
+/// limit.
+pub fn runs(lines: &[u8]) -> Vec<Vec<&[u8]>> {
+    let lines: Vec<&[u8]> = lines.chunks(LINE).collect();
+    let group_and_limit = |line: &[u8]| [&line[..2], &line[16..24]].concat();
+    let runs = lines.chunk_by(|one, next| group_and_limit(one) == group_and_limit(next));
+    runs.map(<[&[u8]]>::to_vec).collect()
+}
+
+/// Whether the tiers of a run rise.
+pub fn in_tier_order(run: &[&[u8]]) -> bool {
+    run.is_sorted_by_key(|line| line[2])
+}
+
+/// Whether two reports are of the same answer and bytes but for runs of lines: `before` has these in
+/// tier order, the other has them in another one, each is cut in its own order, and the excesses add
+/// up to the same. All that C-17 changed.
+pub fn other_order(one: &Outcome, before: &Outcome) -> bool {
+    let Some(Answer::Written(length)) = Answer::unpacked(one.answer) else {
+        return false;
+    };
+    let (header, end) = (GUARD + HEADER, GUARD + length);
+    let split = |area: &[u8]| {
+        let lines = area.get(header..end)?.to_vec();
+        Some((lines, [&area[..header], &area[end..]].concat()))
+    };
+    let (Some((one_lines, one_beside)), Some((before_lines, before_beside))) =
+        (split(&one.area), split(&before.area))
+    else {
+        return false;
+    };
+    let (one_runs, before_runs) = (runs(&one_lines), runs(&before_lines));
+    one.answer == before.answer
+        && one_beside == before_beside
+        && one_lines != before_lines
+        && cut_in_order(&one_lines)
+        && cut_in_order(&before_lines)
+        && one_runs.len() == before_runs.len()
+        && one_runs
+            .iter()
+            .zip(&before_runs)
+            .all(|(one, before)| one == before || other_order_of_run(one, before))
+}
+
+/// Exposure, limit, left and excess of a line.
+fn amounts(line: &[u8]) -> [i128; 4] {
+    [8, 16, 24, 32].map(|at| i128::from(weightrose::amount(&line[at..], 0)))
+}
+
+/// Whether each line is cut at its limit less what stands in its group's lines before it.
+fn cut_in_order(lines: &[u8]) -> bool {
+    let (mut top, mut standing) = (None, 0);
+    lines.chunks(LINE).all(|line| {
+        if top.replace(&line[..2]) != Some(&line[..2]) {
+            standing = 0;
+        }
+        let [exposure, limit, left, excess] = amounts(line);
+        let cut = left == limit - standing && excess == (exposure - left).max(0);
+        standing += exposure - excess;
+        cut
     })
+}
+
+fn other_order_of_run(one: &[&[u8]], before: &[&[u8]]) -> bool {
+    // All of a line but what is left and the excess.
+    let kept = |run: &[&[u8]]| {
+        let mut lines: Vec<Vec<u8>> = run.iter().map(|line| line[..24].to_vec()).collect();
+        lines.sort_unstable();
+        lines
+    };
+    let excess = |run: &[&[u8]]| run.iter().map(|line| amounts(line)[3]).sum::<i128>();
+    in_tier_order(before)
+        && !in_tier_order(one)
+        && kept(one) == kept(before)
+        && excess(one) == excess(before)
 }
 
 /// What a conversion must keep, as the library has it: the same answer and the same bytes of a

@@ -1,22 +1,22 @@
 //! Document 02's requests through the library, with their figures and both sides of each of their
 //! boundaries: C-11, specialist reinsurers; C-12, lines straight into the lent report; C-13, desks
 //! and the converter; C-14, the bills; C-15, rates in ten-thousandths; C-16, how much more may be
-//! bought.
+//! bought; C-17, ties before rounding.
 
 use weightrose_tests::cases::{
     answers, answers_under, bills, bills_under, not_answered, not_billed, refusal, refused,
     refused_book, report, report_under, Report,
 };
 use weightrose_tests::compare::{
-    bought, library, library_bills, library_headroom, outcome, room, Subject,
+    bought, compare_before, library, library_bills, library_headroom, outcome, room, Lent, Subject,
 };
 use weightrose_tests::inputs::{
-    largest_report_book, largest_specialist_book, sample, sixteen_tiers, small_fund, Asking,
-    Askings, Billing, Billings, Input, Inputs, KINDS,
+    largest_report_book, largest_specialist_book, near_ties, sample, sixteen_tiers, small_fund,
+    Asking, Askings, Billing, Billings, Input, Inputs, KINDS,
 };
 use weightrose_tests::random::Random;
 use weightrose_tests::raw::*;
-use weightrose_tests::second::{rebuilt, tried};
+use weightrose_tests::second::{bills_by, headroom_by, rebuilt, report_by, tried, Slip};
 use weightrose_tests::weightrose::{
     bill, convert, headroom, packed_bills, packed_headroom, packed_report, published, Answer,
     Refusal, ANSWER, BILLS, LARGEST_BOOK, LARGEST_REPORT, LINE, MOST_COST_RATE, MOST_QUESTIONS,
@@ -263,17 +263,18 @@ fn c11_limits_at_71() {
     }
 }
 
-/// Rounded down each, and where they tie the lower number first.
+/// Rounded down each. They tie before that where VAF′ is 0 alone, and the lower number is first
+/// there (C-17).
 #[test]
 fn c11_small_limits_and_their_ties() {
     for (vaf_prime, expected, order) in [
         (0, [0, 0, 0], [13, 14, 15]),
-        (1, [0, 0, 0], [13, 14, 15]),
-        (2, [1, 0, 0], [14, 15, 13]),
-        (3, [1, 0, 0], [14, 15, 13]),
+        (1, [0, 0, 0], [15, 14, 13]),
+        (2, [1, 0, 0], [15, 14, 13]),
+        (3, [1, 0, 0], [15, 14, 13]),
         (4, [2, 1, 0], [15, 14, 13]),
         (5, [2, 1, 0], [15, 14, 13]),
-        (6, [3, 1, 1], [14, 15, 13]),
+        (6, [3, 1, 1], [15, 14, 13]),
         (7, [3, 2, 1], [15, 14, 13]),
         (1_000, [500, 330, 170], [15, 14, 13]),
         (MOST - 3, [4_999_999_999_998, 3_299_999_999_999, 1_699_999_999_999], [15, 14, 13]),
@@ -1773,4 +1774,326 @@ fn c16_any_bytes() {
             assert_eq!(not_answered(&published(), &book[..length], list, 8), wanted);
         }
     }
+}
+
+/// A fund of these VAF and VAF′ without base, with a name that has so much in tiers 0 and 1, at desks
+/// 3 and 5.
+fn in_tiers_0_and_1(vaf: u64, vaf_prime: u64, [of_0, of_1]: [u64; 2]) -> RawBook {
+    let mut book = RawBook { version: 2, ..RawBook::empty(vaf, 0, vaf + of_1 - vaf_prime) };
+    let name = book.counterparty(RawCounterparty::default());
+    book.asset(held(3, 11, name, of_0), &[]);
+    book.asset(RawAsset { combination_stress: of_1, ..held(5, 9, name, 0) }, &[]);
+    book
+}
+
+/// What document 01's program prints, and what it printed before C-17, by the second implementation
+/// with document 01's own ranking.
+fn now_and_before(schedule: &RawSchedule, book: &RawBook) -> [String; 2] {
+    let now = report_under(&schedule.bytes(), book);
+    let mut buffer = vec![0; LARGEST_REPORT];
+    let before =
+        report_by(&Slip::RankedByCents, &schedule.bytes(), &book.bytes(), &mut buffer).packed();
+    assert_eq!(before, now.bytes.len() as u64);
+    buffer.truncate(now.bytes.len());
+    [now, Report { bytes: buffer }].map(|report| report.printed())
+}
+
+/// "With VAF 41, VAF′ 40 and base 0, tier 1 comes before tier 0": 1.000 and 1.025 cents. Their
+/// excesses are other ones, and the charge is not.
+#[test]
+fn c17_the_requests_row() {
+    let book = in_tiers_0_and_1(41, 40, [2, 3]);
+    let report = report(&book);
+    assert_eq!((report.vaf(), report.vaf_prime()), (41, 40));
+    for schedule in [RawSchedule::published(), in_ten_thousandths()] {
+        assert_eq!(
+            now_and_before(&schedule, &book),
+            ["1 1 3 1 1 2\n1 0 2 1 0 2\ncharge 4\n", "1 0 2 1 1 1\n1 1 3 1 0 3\ncharge 4\n"]
+        );
+    }
+}
+
+/// VAF and VAF′ on both sides of each other, and of where the cents part.
+#[test]
+fn c17_vaf_against_vaf_prime() {
+    for (vaf, vaf_prime, wanted) in [
+        (40, 40, "1 0 2 1 1 1\n1 1 3 1 0 3\ncharge 4\n"),
+        (40, 41, "1 0 2 1 1 1\n1 1 3 1 0 3\ncharge 4\n"),
+        (79, 40, "1 1 3 1 1 2\n1 0 2 1 0 2\ncharge 4\n"),
+        (79, 78, "1 1 3 1 1 2\n1 0 2 1 0 2\ncharge 4\n"),
+        (80, 79, "1 1 3 1 1 2\n1 0 2 2 1 1\ncharge 3\n"),
+        (79, 80, "1 0 2 1 1 1\n1 1 3 2 1 2\ncharge 3\n"),
+        (39, 38, "1 1 3 0 0 3\n1 0 2 0 0 2\ncharge 5\n"),
+        (1, 0, "1 1 3 0 0 3\n1 0 2 0 0 2\ncharge 5\n"),
+        (0, 0, "1 0 2 0 0 2\n1 1 3 0 0 3\ncharge 5\n"),
+        (0, 1, "1 0 2 0 0 2\n1 1 3 0 0 3\ncharge 5\n"),
+    ] {
+        let book = in_tiers_0_and_1(vaf, vaf_prime, [2, 3]);
+        assert_eq!(report(&book).printed(), wanted, "VAF {vaf}, VAF′ {vaf_prime}");
+    }
+    // 249,999,999,999.975 and 249,999,999,999.950.
+    let book = in_tiers_0_and_1(MOST - 1, MOST - 2, [200_000_000_000, 100_000_000_000]);
+    assert_eq!(
+        report(&book).printed(),
+        "1 1 100000000000 249999999999 249999999999 0\n\
+         1 0 200000000000 249999999999 149999999999 50000000001\n\
+         charge 50000000001\n"
+    );
+}
+
+/// A fund of VAF 150 without base, whose bank has 4, 5 and 6 in tiers 0, 2 and 11.
+fn in_tiers_0_2_and_11() -> RawBook {
+    RawBook { total: 150, base: 0, ..of_a_bank(&[(11, 4), (6, 5), (3, 6)]) }
+}
+
+/// Three tiers at 10.05, 10.20 and 10.35 cents in each order: the charge is 5 in all of them, and
+/// before C-17 every one was cut as the first.
+#[test]
+fn c17_three_tiers_within_a_cent() {
+    let before = "1 0 4 10 10 0\n1 2 5 10 6 0\n1 11 6 10 1 5\ncharge 5\n";
+    for ([i, h, c], wanted) in [
+        ([67, 68, 69], before),
+        ([67, 69, 68], "1 0 4 10 10 0\n1 11 6 10 6 0\n1 2 5 10 0 5\ncharge 5\n"),
+        ([68, 67, 69], "1 2 5 10 10 0\n1 0 4 10 5 0\n1 11 6 10 1 5\ncharge 5\n"),
+        ([69, 67, 68], "1 2 5 10 10 0\n1 11 6 10 5 1\n1 0 4 10 0 4\ncharge 5\n"),
+        ([68, 69, 67], "1 11 6 10 10 0\n1 0 4 10 4 0\n1 2 5 10 0 5\ncharge 5\n"),
+        ([69, 68, 67], "1 11 6 10 10 0\n1 2 5 10 4 1\n1 0 4 10 0 4\ncharge 5\n"),
+    ] {
+        let mut schedule = plain(1, [0; 3], 0);
+        for (row, rate) in [(6, i), (5, h), (0, c)] {
+            schedule.rows[row].rates[0] = rate;
+        }
+        assert_eq!(now_and_before(&schedule, &in_tiers_0_2_and_11()), [wanted, before]);
+    }
+}
+
+/// "only truly equal ones by number": 10 cents by a rate, a fixed amount, a second rate and a base
+/// rate, then a hundredth of a cent more of VAF's, in tiers 0 and 11. Tier 12 has 7.
+#[test]
+fn c17_truly_equal_ones_by_number() {
+    let mut schedule = plain(1, [0; 3], 0);
+    schedule.rows[6].rates = [10, 0, 0];
+    schedule.rows[5].fixed = 10;
+    schedule.rows[0].rates = [0, 10, 0];
+    schedule.rows[1].rates = [0, 0, 125];
+    let by_number = "1 0 4 10 10 0\n1 2 5 10 6 0\n1 11 6 10 1 5\n1 12 7 10 0 7\ncharge 12\n";
+    let mut book = RawBook { total: 1_000, base: 80, ..in_tiers_0_2_and_11() };
+    book.asset(held(0, 4, 1, 7), &[]);
+    assert_eq!(now_and_before(&schedule, &book), [by_number, by_number]);
+    book.total = 1_001;
+    let now = "1 2 5 10 10 0\n1 12 7 10 5 2\n1 0 4 10 0 4\n1 11 6 10 0 6\ncharge 12\n";
+    assert_eq!(now_and_before(&schedule, &book), [now, by_number]);
+    // Equal ones that are no whole cents: 10.05 each.
+    let book = in_tiers_0_2_and_11();
+    let equal = plain(1, [67, 0, 0], 0);
+    let by_number = "1 0 4 10 10 0\n1 2 5 10 6 0\n1 11 6 10 1 5\ncharge 5\n";
+    assert_eq!(now_and_before(&equal, &book), [by_number, by_number]);
+}
+
+/// A bank with 7 in tier 11, and its ungraded child's reinsurance, 6 each, by entry and months.
+fn downgraded(reinsurance: &[(u8, u8)]) -> RawBook {
+    let mut book = RawBook { total: 1_000, base: 0, ..of_a_bank(&[(3, 7)]) };
+    book.excluded = 6 * reinsurance.len() as u64;
+    for &(entry, months) in reinsurance {
+        let asset = RawAsset { entry, months, combination_stress: 6, ..held(0, 9, 2, 0) };
+        book.asset(asset, &[]);
+    }
+    book
+}
+
+/// The percent kept makes the difference: 66 per cent of 16 are 10.56, beside 10 in tier 11; 66 per
+/// cent of 50 are 33, beside 33.
+#[test]
+fn c17_a_percent() {
+    let of = |percents, e, g, c| {
+        let mut schedule = RawSchedule { percents, ..plain(1, [0; 3], 0) };
+        for (row, fixed) in [(2, e), (4, g), (0, c), (7, 1_000)] {
+            schedule.rows[row].fixed = fixed;
+        }
+        schedule
+    };
+    let book = downgraded(&[(1, 3)]);
+    let before = "1 8 6 10 10 0\n1 11 7 10 4 3\ncharge 3\n";
+    assert_eq!(
+        now_and_before(&of([66, 34], 16, 0, 10), &book),
+        ["1 11 7 10 10 0\n1 8 6 10 3 3\ncharge 3\n", before]
+    );
+    // All of 10 is kept: truly equal.
+    assert_eq!(now_and_before(&of([100, 34], 10, 0, 10), &book), [before, before]);
+    let equal = "1 8 6 33 33 0\n1 11 7 33 27 0\ncharge 0\n";
+    assert_eq!(now_and_before(&of([66, 34], 50, 0, 33), &book), [equal, equal]);
+    // Two percents: 50 of row g's 21 are 10.50 in tier 5, and 25 of row e's 41 are 10.25 in tier 7.
+    assert_eq!(
+        now_and_before(&of([50, 25], 41, 21, 100), &downgraded(&[(2, 3), (1, 12)])),
+        [
+            "1 7 6 10 10 0\n1 5 6 10 4 2\n1 11 7 100 90 0\ncharge 2\n",
+            "1 5 6 10 10 0\n1 7 6 10 4 2\n1 11 7 100 90 0\ncharge 2\n"
+        ]
+    );
+}
+
+/// W makes the difference: half of 41 less W of 10 are 10.50 in tier 12, beside 26 per cent, 10.66,
+/// in tier 0. Another W makes other cents.
+#[test]
+fn c17_w() {
+    let mut schedule = plain(1, [0; 3], 0);
+    schedule.rows[0].fixed = 100;
+    schedule.rows[1].rates = [500, 0, 0];
+    schedule.rows[6].rates = [260, 0, 0];
+    let with_w = |w| {
+        let mut book = RawBook::empty(41, 0, 0);
+        book.counterparties = vec![bank(), bank()];
+        for (kind, counterparty, value) in [(11, 1, 6), (4, 1, 7), (3, 2, w)] {
+            book.asset(held(0, kind, counterparty, value), &[]);
+        }
+        now_and_before(&schedule, &book)
+    };
+    assert_eq!(
+        with_w(10),
+        [
+            "1 12 7 10 10 0\n1 0 6 10 3 3\n2 11 10 100 100 0\ncharge 3\n",
+            "1 0 6 10 10 0\n1 12 7 10 4 3\n2 11 10 100 100 0\ncharge 3\n"
+        ]
+    );
+    for (w, wanted) in [
+        (9, "1 0 6 10 10 0\n1 12 7 11 5 2\n2 11 9 100 100 0\ncharge 2\n"),
+        (11, "1 12 7 9 9 0\n1 0 6 10 3 3\n2 11 11 100 100 0\ncharge 3\n"),
+        (21, "1 12 7 0 0 7\n1 0 6 10 10 0\n2 11 21 100 100 0\ncharge 7\n"),
+    ] {
+        assert_eq!(with_w(w), [wanted, wanted]);
+    }
+}
+
+/// C-15: of 1,000, 437 ten-thousandths are 43.70 and 438 are 43.80; 43 per mille are truly equal, and
+/// so are 430 ten-thousandths.
+#[test]
+fn c17_ten_thousandths() {
+    let book = RawBook { total: 1_000, base: 0, ..of_a_bank(&[(11, 30), (6, 20)]) };
+    let of = |version, i, h| {
+        let mut schedule = plain(version, [0; 3], 0);
+        (schedule.rows[6].rates[0], schedule.rows[5].rates[0]) = (i, h);
+        now_and_before(&schedule, &book)
+    };
+    let h_first = "1 2 20 43 43 0\n1 0 30 43 23 7\ncharge 7\n";
+    let i_first = "1 0 30 43 43 0\n1 2 20 43 13 7\ncharge 7\n";
+    assert_eq!(of(2, 438, 437), [h_first, i_first]);
+    assert_eq!(of(2, 437, 438), [i_first, i_first]);
+    assert_eq!(of(2, 430, 430), [i_first, i_first]);
+    assert_eq!(of(1, 43, 43), [i_first, i_first]);
+}
+
+/// C-11's tiers, whose rates are per mille under either version: half of 21 are 10.50 in tier 13,
+/// beside rates of tier 0 on both sides of that.
+#[test]
+fn c17_specialist_funds() {
+    let mut book = specialist(21, 0);
+    book.excluded = 7;
+    book.counterparty(RawCounterparty::default());
+    book.asset(held(0, 11, 1, 6), &[]);
+    book.asset(RawAsset { combination_stress: 7, ..retrocession(1, 0, 0) }, &[]);
+    let first_0 = "1 0 6 10 10 0\n1 13 7 10 4 3\ncharge 3\n";
+    let first_13 = "1 13 7 10 10 0\n1 0 6 10 3 3\ncharge 3\n";
+    for (version, rate, wanted) in [
+        (1, 499, first_0),
+        (1, 500, first_0),
+        (1, 501, first_13),
+        (2, 4_999, first_0),
+        (2, 5_000, first_0),
+        (2, 5_001, first_13),
+    ] {
+        let found = now_and_before(&plain(version, [rate, 0, 0], 0), &book);
+        assert_eq!(found, [wanted, first_0], "rate {rate}");
+    }
+}
+
+/// C-14: 25 per mille of VAF 4,001 are 100.025, and of VAF′ 4,000 they are 100. Tier 1 is served
+/// first, so that desk 3's asset in tier 0 is cut, and no more desk 5's in tier 1.
+#[test]
+fn c17_bills_of_two_desks() {
+    let book = in_tiers_0_and_1(4_001, 4_000, [80, 90]);
+    assert_eq!(
+        now_and_before(&RawSchedule::published(), &book),
+        [
+            "1 1 90 100 100 0\n1 0 80 100 10 70\ncharge 70\n",
+            "1 0 80 100 100 0\n1 1 90 100 20 70\ncharge 70\n"
+        ]
+    );
+    assert_eq!(bills(&book, 1_000), [(3, 7)]);
+    let mut before = [0; BILLS];
+    let bytes = book.bytes();
+    bills_by(&Slip::RankedByCents, &published(), &bytes, 1_000, &mut before);
+    assert_eq!([3, 5].map(|desk| bill(&before, desk)), [0, 7]);
+    // The other way about, and truly equal: as before.
+    for vaf_prime in [4_001, 4_002] {
+        let book = in_tiers_0_and_1(4_001, vaf_prime, [80, 90]);
+        assert_eq!(bills(&book, 1_000), [(5, 7)]);
+    }
+}
+
+/// C-16: at equal limits all that stands counts, whatever the order. 30 and 40 stand of 100, and of
+/// 200 in tier 2; or 100 stand, all that can.
+#[test]
+fn c17_questions_are_answered_as_before() {
+    let questions = [ask(1, 11), ask(1, 6)];
+    let list = RawQuestion::list(&questions);
+    for ([of_0, of_1], wanted) in [
+        ([30, 40], [30, 130]),
+        ([0, 40], [60, 160]),
+        ([30, 0], [70, 170]),
+        ([60, 40], [0, 100]),
+        ([60, 39], [1, 101]),
+        ([80, 90], [0, 100]),
+        ([500, 1], [0, 100]),
+    ] {
+        for vaf_prime in [4_000, 4_001] {
+            let book = in_tiers_0_and_1(4_001, vaf_prime, [of_0, of_1]);
+            assert_eq!(answers(&book, &questions), wanted, "VAF′ {vaf_prime}");
+            let mut before = [0; 2 * ANSWER];
+            let old = Slip::RankedByCents;
+            headroom_by(&old, &published(), &book.bytes(), &list, &mut before);
+            assert_eq!(before.to_vec(), wanted.map(u64::to_le_bytes).concat());
+        }
+    }
+}
+
+/// What stays, over all near ties that are listed: the answer, the header and with it group excess
+/// and charge, the lines but for order, left and excess where limits are equal, and the sum of the
+/// excesses there; every answer to a question; and the sum of the bills. Most of the reports, and
+/// many bills, are other bytes.
+#[test]
+fn c17_what_stays() {
+    let old = Slip::RankedByCents;
+    let old_report = |schedule: &[u8], book: &[u8], lent: &mut Lent| {
+        report_by(&old, schedule, book, lent.buffer()).packed()
+    };
+    let questions = [ask(2, 11), ask(2, 6), ask(3, 10), ask(4, 5), ask(1, 4), ask(1, 3)];
+    let list = RawQuestion::list(&questions);
+    let inputs = near_ties();
+    let (mut reports, mut bills) = (0, 0);
+    for (number, input) in inputs.iter().enumerate() {
+        let Input { schedule, book, .. } = input;
+        let compared = compare_before(&library, &old_report, input);
+        let (now, other_order) = compared.unwrap_or_else(|what| panic!("input {number}: {what}"));
+        assert_eq!(now.answer >> 32, 0, "input {number}");
+        reports += u64::from(other_order);
+
+        let mut answers = [[0; 6 * ANSWER]; 2];
+        headroom(schedule, book, &list, &mut answers[0]);
+        headroom_by(&old, schedule, book, &list, &mut answers[1]);
+        assert_eq!(answers[0], answers[1], "input {number}");
+
+        let mut of_desks = book.clone();
+        of_desks[4] = 2;
+        let assets = usize::from(of_desks[8]);
+        let first = 40 + 4 * usize::from(of_desks[6]);
+        (0..assets).for_each(|asset| of_desks[first + 48 * asset + 7] = asset as u8);
+        let mut billed = [[0; BILLS]; 2];
+        packed_bills(schedule, &of_desks, 1_000, &mut billed[0]);
+        bills_by(&old, schedule, &of_desks, 1_000, &mut billed[1]);
+        let sum = |bills: &[u8; BILLS]| (0..=255).map(|desk| bill(bills, desk)).sum::<u64>();
+        assert_eq!(sum(&billed[0]), sum(&billed[1]), "input {number}");
+        bills += u64::from(billed[0] != billed[1]);
+    }
+    let count = inputs.len();
+    assert!(count > 7_500 && reports > 6_000 && bills > 2_000, "{count}: {reports}, {bills}");
 }

@@ -3,7 +3,7 @@
 
 use weightrose_tests::compare::{
     adds_up, compare, compare_bills, compare_headroom, library, library_bills, library_convert,
-    library_headroom, may_be_bought, outcome, second, second_bills, second_convert,
+    library_headroom, may_be_bought, outcome, room, second, second_bills, second_convert,
     second_headroom, Answerer, Biller, Lent, Subject, GUARD,
 };
 use weightrose_tests::inputs::{
@@ -233,6 +233,39 @@ fn each_slip_of_the_answers_is_caught() {
     let reaches = |slip: &Slip| slip.of_headroom() || of_report(slip);
     let missed: Vec<Slip> = Slip::ALL.iter().copied().filter(reaches).filter(passes).collect();
     assert!(missed.is_empty(), "not caught: {missed:?}");
+}
+
+/// C-17: no answer to a question and no charge hangs on the order of tiers whose limits are equal in
+/// cents. Each such order is another one somewhere, or it would not be caught by the reports.
+#[test]
+fn the_order_of_equal_limits_changes_no_answer() {
+    let (inputs, askings) = (Inputs::new(SEED), Askings::new(SEED));
+    let answers = |slip: &Slip| {
+        let same = |schedule: &[u8], book: &[u8], questions: &[u8], lent: &mut Lent| {
+            headroom_by(slip, schedule, book, questions, lent.buffer()).packed()
+        };
+        let seeded = askings.fixed()..askings.fixed() + SEEDED_ASKINGS / 20;
+        seeded
+            .into_iter()
+            .all(|number| compare_headroom(&library_headroom, &same, &askings.get(number)).is_ok())
+    };
+    let headers = |slip: &Slip| {
+        let same = |schedule: &[u8], book: &[u8], lent: &mut Lent| {
+            report_by(slip, schedule, book, lent.buffer()).packed()
+        };
+        let seeded = inputs.fixed()..inputs.fixed() + SEEDED / 10;
+        seeded.into_iter().all(|number| {
+            let input = inputs.get(number);
+            let room = room(&input);
+            let [one, other] = [&library as Subject, &same].map(|it| outcome(it, &input, room));
+            let header = |area: &[u8]| area[..area.len().min(GUARD + HEADER)].to_vec();
+            one.answer == other.answer && header(&one.area) == header(&other.area)
+        })
+    };
+    let of_order = Slip::ALL.iter().filter(|slip| slip.of_equal_limits());
+    for slip in of_order {
+        assert!(answers(slip) && headers(slip), "{slip:?}");
+    }
 }
 
 /// C-16: bytes that answers could leave or change, and answers that look right from afar.

@@ -11,7 +11,7 @@ use Rattle.words.specs.Words.{sum}
 use Rattle.words.specs.Sums.{sum-same, sum-each-same}
 use Rattle.words.specs.Ranges.{sum-within}
 use Rattle.wire.specs.Bytes.{M}
-use Rattle.cascade.specs.Cascade.{tiers, byTier, byLimit, ranked, excess}
+use Rattle.cascade.specs.Cascade.{tiers, byTier, ranked, excess}
 use Rattle.cascade.proofs.Ranking.{ranked-only, ranked-once}
 use Rattle.rows.specs.Rows.{columns, row, row-at}
 use Rattle.figures.specs.Fund.{Fund}
@@ -32,7 +32,7 @@ use Rattle.parties.specs.RowLaws.{tops-le, lower}
 use Rattle.cells.specs.Cells.{rowAt}
 use Rattle.cells.specs.GroupSums.{rows-le}
 use Rattle.fund.specs.declared.Fund as made
-use Rattle.fund.specs.Figures.{limitsOf, fundOf}
+use Rattle.fund.specs.Figures.{limitsOf, order, fundOf}
 use Rattle.fund.specs.Fund.{Exposed, RatedAs}
 use Rattle.report.specs.Answer.{fundIn}
 use Rattle.desks.specs.Pass.{lineCell}
@@ -50,7 +50,7 @@ module _ {schedule b : List ℕ} {groups : ℕ} {f : made.Fund} {cells : List �
     few = omega (arith, eg, tops-le b (C b), acc .counterparties);
     rows = x .size;
     amounts = row-few;
-    ranks = rw (r .ranking) (ranked-once (byLimit (byTier (f .limits))) tiers);
+    ranks = rw (r .ranking) (ranked-once (order (scheduleOf schedule) (bookOf b)) tiers);
   }
 
   module _ {stood : List ℕ} (s : Stood groups (f .limits) (f .ranking) cells stood) where
@@ -76,8 +76,9 @@ module _ {schedule b : List ℕ} {groups : ℕ} {f : made.Fund} {cells : List �
       unfolding standsIn tierExcess fundIn fundOf
       stands-tier t u =
           let L = byTier (limitsOf (scheduleOf schedule) (bookOf b)) in
-          let same : excess (byTier (f .limits)) (byTier (row cells k)) (f .ranking) t ≡ excess L (exposureOf (bookOf b) g) (ranked (byLimit L) tiers) t =
-          rw (r .ranking, r .limits) (excess-same tiers L L (byTier (row cells k)) (exposureOf (bookOf b) g) (λ _ _. refl) tier-is (ranked (byLimit L) tiers) t u (ranked-only (byLimit L) tiers)) in
+          let ranks = order (scheduleOf schedule) (bookOf b) in
+          let same : excess (byTier (f .limits)) (byTier (row cells k)) (f .ranking) t ≡ excess L (exposureOf (bookOf b) g) (ranked ranks tiers) t =
+          rw (r .ranking, r .limits) (excess-same tiers L L (byTier (row cells k)) (exposureOf (bookOf b) g) (λ _ _. refl) tier-is (ranked ranks tiers) t u (ranked-only ranks tiers)) in
           rw (lt-ltb t tiers u, number) (sym (s .tier k t inside u ∙ rw (tier-is t u, same)))
 
       -- what has no limit stands whole

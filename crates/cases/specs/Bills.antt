@@ -116,6 +116,10 @@ rounded = deskBytes 40 0 0 (name ∷ []) (plainAt 9 11 1 10 ∷ plainAt 3 11 1 1
 abbrev ends : List ℕ
 ends = deskBytes 40 0 0 (name ∷ []) (plainAt 255 11 1 8 ∷ plainAt 0 11 1 15 ∷ []) []
 
+-- VAF 4,001 and VAF′ 4,000: tier 0 of desk 1 and tier 1 of desk 2, with limits of 100.025 and 100.000
+abbrev near : List ℕ
+near = deskBytes 4001 0 1 (name ∷ []) (plainAt 1 11 1 80 ∷ reinsuredAt 2 1 90 ∷ []) []
+
 unfoldable bills : List Bool
 bills =
     -- "what stands is given to the exposure lines in book order", "A line's unserved part is its excess": the first line is whole, of the second 150,000,000 stand.
@@ -125,6 +129,9 @@ bills =
     -- "The cost rate is in ten-thousandths": per mille the bills would be ten times as high
     ∷ billed cut 1 (desk 1 5000 (desk 2 3000 none))
     ∷ billed cut 0 none
+    -- C-17: tier 1 ranks first, and stands. By limits in cents desk 2 would have the excess
+    ∷ owed near (70 ∷ 0 ∷ []) (desk 1 70 none)
+    ∷ billed near 1000 (desk 1 7 none)
     -- "goes to desk 0, as does every line of a version 1 book"
     ∷ owed cutBefore (0 ∷ 50000000 ∷ 30000000 ∷ []) (desk 0 80000000 none)
     ∷ billed cutBefore 1000 (desk 0 8000000 none)

@@ -116,6 +116,9 @@ answers =
     ∷ tells over (ask 1 11 ∷ ask 1 6 ∷ ask 2 3 ∷ ask 2 4 ∷ []) (0 ∷ 0 ∷ 2000000000 ∷ 4500000000 ∷ [])
     -- "an equal limit counts as lower": what is added to tier 2 stands in tier 3 too. By tier 2 alone it would be 200,000,000
     ∷ tells equal (ask 1 6 ∷ ask 1 11 ∷ []) (50000000 ∷ 50000000 ∷ [])
+    -- C-17: tiers 0 and 1 with limits of 1.025 and 1.000, of which tier 1 has 1. What is added to tier 0 finds no room there, and by limits in cents
+    -- none in tier 1; tier 2 has 2.05
+    ∷ tells (bookBytes 41 0 1 (name ∷ []) (reinsured 1 0 1 ∷ []) []) (ask 1 11 ∷ ask 1 6 ∷ []) (0 ∷ 1 ∷ [])
     -- "A kind without limit answers M": kind 1 with the home government, kind 2 with a related life company, and no other
     ∷ tells free (ask 1 1 ∷ ask 1 2 ∷ ask 2 2 ∷ ask 2 1 ∷ ask 3 2 ∷ ask 4 1 ∷ []) (M ∷ 500000000 ∷ M ∷ 500000000 ∷ 500000000 ∷ 500000000 ∷ [])
     -- "that group's tier": the group is its topmost parent's, the tier the counterparty's own. Name by name kind 11 of 3 would have 250,000,000

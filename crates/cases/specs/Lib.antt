@@ -10,6 +10,7 @@ pub mod Mitigants
 pub mod Limits
 pub mod Rates
 pub mod Cascade
+pub mod Ties
 pub mod Retrocession
 pub mod Faults
 pub mod Edges

@@ -38,7 +38,7 @@ letters =
 
 unfoldable table : List Case
 table =
-    -- a second percent above the first: the tiers "rank by limit in cents"
+    -- a second percent above the first: the tiers rank by what their limits are
     record {
       schedule = swapped;
       book = downgraded;

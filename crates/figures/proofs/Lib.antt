@@ -4,3 +4,4 @@ pub mod Written
 pub mod Size
 pub mod Least
 pub mod Cases
+pub mod Orders

@@ -4,8 +4,8 @@ use Prim.Native.Nat.{ℕ, _+_}
 use Rattle.words.specs.Words.{sum}
 
 -- The groups have the places 1 .. groups, the tiers the numbers 0 .. tiers - 1.
---   order          "tiers rank by limit in cents, then number": whether a tier ranks at or below another
---   limit          a tier's limit
+--   order          whether a tier ranks at or below another
+--   limit          a tier's limit, in cents
 --   exposure       "A group's exposure in a tier", by the group's top place and the tier's number
 --   the others     "VAF, VAF′, all net (linked too), unlimited (linked nets and exposures without limit), (..) A3 sum, A3 limit"
 pub record Fund : Type 0 where

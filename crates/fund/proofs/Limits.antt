@@ -1,17 +1,17 @@
 -- What the checks that were passed give the functions behind them: bounds, and the figures by their definitions.
-use mathlib.Core.List.{List}
-use mathlib.Core.Path.{_≡_, refl, sym, ap}
+use mathlib.Core.List.{List, map}
+use mathlib.Core.Path.{_≡_, refl, sym, ap, _∙_}
 use Prim.Native.Nat.{ℕ, _+_, _≤_, _<_, _^_}
 use native.Mathlib.Omega.{arith}
 use lib.IntN.{ℤ, pos, negsuc}
 use lib.ListN.{length, getD}
 use Rattle.wire.specs.Bytes.{M}
 use Rattle.refusal.specs.declared.Checked.the-variants.{Fine}
-use Rattle.limit.specs.Limit.{counted}
+use Rattle.limit.specs.Limit.{tenThousandths, counted, centsOf}
 use Rattle.limit.specs.Bounds.{mostLimit}
 use Rattle.schedule.specs.declared.Schedule.{Schedule}
 use Rattle.schedule.specs.Schedule.{scheduleSize, scheduleOf}
-use Rattle.schedule.specs.Tiers.{limits, a3LimitOf}
+use Rattle.schedule.specs.Tiers.{unroundedLimits, limitsIn, a3LimitOf}
 use Rattle.schedule.specs.Fits.{RatesFit}
 use Rattle.schedule.specs.FitsLaws.{schedule-length, rates-fit}
 use Rattle.schedule.specs.TierLaws.{limits-le}
@@ -35,7 +35,7 @@ use Rattle.cells.specs.Adding.{amount-le}
 use Rattle.a3.specs.A3.{a3Part, a3At}
 use Rattle.a3.specs.Laws.{by-number}
 use Rattle.fund.specs.Fund.{Passed, sumsOf, Exposed, Summed}
-use Rattle.fund.specs.Figures.{limitsOf, limit, a3Sum, a3Limit}
+use Rattle.fund.specs.Figures.{unroundedOf, limitsOf, limit, a3Sum, a3Limit}
 
 counted-le : (z : ℤ) → Within z → counted z ≤ M
 counted-le (pos n) h = h
@@ -67,11 +67,15 @@ module _ {schedule book : List ℕ} (p : Passed schedule book) where
         rw e (limits-le (scheduleOf schedule) (VAF (bookOf book)) (VAF′ (bookOf book)) (base book) (W (bookOf book)) (rates refl) (vaf-most refl) (stressed-most refl) (base-le refl) t)
 
 module _ (schedule book : List ℕ) where
-  pub limits-are :
+  pub unrounded-are :
       {s : Schedule} {v v′ w : ℕ} {z : ℤ} → s ≡ scheduleOf schedule → v ≡ VAF (bookOf book) → v′ ≡ VAF′ (bookOf book) → z ≡ base book → w ≡ W (bookOf book)
-      → limits s v v′ z w ≡ limitsOf (scheduleOf schedule) (bookOf book)
-  unfolding limitsOf bookOf
-  limits-are es ev ev′ ez ew = rw (es, ev, ev′, ez, ew)
+      → unroundedLimits s v v′ z w ≡ unroundedOf (scheduleOf schedule) (bookOf book)
+  unfolding unroundedOf bookOf
+  unrounded-are es ev ev′ ez ew = rw (es, ev, ev′, ez, ew)
+
+  pub limits-are : {us ls : List ℕ} → us ≡ unroundedOf (scheduleOf schedule) (bookOf book) → ls ≡ map (centsOf tenThousandths) us → ls ≡ limitsOf (scheduleOf schedule) (bookOf book)
+  unfolding unroundedOf limitsOf limitsIn
+  limits-are eu el = el ∙ ap (map (centsOf tenThousandths)) eu
 
   pub a3-limit-is : {s : Schedule} {v′ : ℕ} {z : ℤ} → s ≡ scheduleOf schedule → v′ ≡ VAF′ (bookOf book) → z ≡ base book → a3LimitOf s v′ z ≡ a3Limit (scheduleOf schedule) (bookOf book)
   unfolding a3Limit bookOf

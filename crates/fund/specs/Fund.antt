@@ -23,7 +23,7 @@ use Rattle.exposure.specs.Parts.{exposures}
 use Rattle.exposure.specs.Tier.{tierOf, noLimit}
 use Rattle.exposure.specs.Sums.{amountOf, W, allNet, unlimited}
 use Rattle.words.specs.Words.{_=?_}
-use Rattle.cascade.specs.Cascade.{tiers, byTier, byLimit, ranked}
+use Rattle.cascade.specs.Cascade.{tiers, ranked}
 use Rattle.rows.specs.Rows.{columns}
 use Rattle.assets.specs.declared.Values.{Values}
 use Rattle.assets.specs.Marks.{marked}
@@ -34,7 +34,7 @@ use Rattle.cells.specs.declared.Sums.{Sums}
 use Rattle.cells.specs.Cells.{Posted}
 use Rattle.fund.specs.declared.Limited.{Limited}
 use Rattle.fund.specs.declared.Fund.{Fund}
-use Rattle.fund.specs.Figures.{limitsOf, a3Sum, a3Limit}
+use Rattle.fund.specs.Figures.{unroundedOf, limitsOf, order, a3Sum, a3Limit}
 
 pub record Passed (schedule book : List ℕ) : Type 0 where
   pub of-schedule : scheduleCheck schedule ≡ Fine
@@ -78,13 +78,14 @@ pub record Summed (b : List ℕ) (values : Values) (sums : Sums) : Type 0 where
 pub record LimitsOf (schedule book : List ℕ) (r : Limited) : Type 0 where
   pub vaf : r .vaf ≡ VAF (bookOf book)
   pub stressed : r .«stressed_vaf» ≡ VAF′ (bookOf book)
+  pub unrounded : r .unrounded ≡ unroundedOf (scheduleOf schedule) (bookOf book)
   pub limits : r .limits ≡ limitsOf (scheduleOf schedule) (bookOf book)
   pub a3 : r .«a3_limit» ≡ a3Limit (scheduleOf schedule) (bookOf book)
 
 pub record RatedAs (schedule book : List ℕ) (r : Fund) : Type 0 where
   pub found : r .found ≡ Fine
   pub limits : r .limits ≡ limitsOf (scheduleOf schedule) (bookOf book)
-  pub ranking : r .ranking ≡ ranked (byLimit (byTier (r .limits))) tiers
+  pub ranking : r .ranking ≡ ranked (order (scheduleOf schedule) (bookOf book)) tiers
   pub vaf : r .figures .vaf ≡ VAF (bookOf book)
   pub stressed : r .figures .«stressed_vaf» ≡ VAF′ (bookOf book)
   pub all-net : r .figures .«all_net» ≡ allNet (bookOf book)

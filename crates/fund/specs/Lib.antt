@@ -1,4 +1,5 @@
 pub mod Figures
+pub mod OrderLaws
 pub mod Fund
 pub mod Tables
 pub mod MostLines

@@ -27,6 +27,7 @@ struct Drawn {
 struct Limited {
     vaf: u64,
     stressed_vaf: u64,
+    unrounded: [u64; TIERS],
     limits: [u64; TIERS],
     a3_limit: u64,
 }
@@ -102,10 +103,12 @@ fn limits_of(schedule: &[u8], book: &[u8], values: Values, w: u64) -> Limited
     let stressed_vaf = values::stressed_vaf(book, values);
     let h = book::header_at(book);
     let base = h.base;
+    let unrounded = schedule::unrounded_limits(s, vaf, stressed_vaf, base, w);
     Limited {
         vaf,
         stressed_vaf,
-        limits: schedule::limits(s, vaf, stressed_vaf, base, w),
+        unrounded,
+        limits: schedule::in_cents(unrounded),
         a3_limit: schedule::a3_limit(s, stressed_vaf, base),
     }
 }
@@ -124,6 +127,7 @@ fn rate(
 {
     let l = limits_of(schedule, book, values, sums.w);
     let limits = l.limits;
+    let unrounded = l.unrounded;
     let figures = Figures {
         vaf: l.vaf,
         stressed_vaf: l.stressed_vaf,
@@ -135,7 +139,7 @@ fn rate(
     Fund {
         found: Checked::Fine,
         limits,
-        ranking: cascade::rank(limits),
+        ranking: cascade::rank(unrounded),
         figures,
     }
 }

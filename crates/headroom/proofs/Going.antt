@@ -10,41 +10,41 @@ use lib.ListN.{length, drop, getD}
 use lib.Seq.{drop-cons}
 use Rattle.words.specs.Words.{_=?_, if_then_else_, sumOf, sum, All}
 use Rattle.wire.specs.Bytes.{M}
-use Rattle.cascade.specs.Cascade.{tiers, byTier, byLimit, ranked, next}
+use Rattle.cascade.specs.Cascade.{tiers, byTier, ranked, next}
 use Rattle.cascade.proofs.Core.{Rising, rising-less, all-rising}
-use Rattle.cascade.proofs.Ranking.{ranked-lists, ranked-sorted, byLimit-ordered}
-use Rattle.headroom.specs.Headroom.{roomIn}
+use Rattle.cascade.proofs.Ranking.{ranked-lists, ranked-sorted}
+use Rattle.headroom.specs.Headroom.{roomIn, RankedBy}
 use Rattle.headroom.proofs.Along.{rest, next-is}
 use Rattle.headroom.proofs.Closed.{rest-is}
 
 -- ks are the tiers still to come, s stands before them, and `room` has got through so far
-pub record Going (limits : List ℕ) (e : ℕ → ℕ) (tier most : ℕ) (ks : List ℕ) (s room : ℕ) (met : Bool) : Type 0 where
+pub record Going (limits ranking : List ℕ) (e : ℕ → ℕ) (tier most : ℕ) (ks : List ℕ) (s room : ℕ) (met : Bool) : Type 0 where
   pub inside : All (λ t. t < tiers) ks
   pub rises : Rising (byTier limits) s ks
   pub amounts : s + sumOf e ks ≤ 900 * M
-  pub through : rest (byTier limits) e tier met s ks room ≡ roomIn tiers (byLimit (byTier limits)) (byTier limits) e tier most
+  pub through : (q : RankedBy limits ranking) → rest (byTier limits) e tier met s ks room ≡ roomIn tiers (q .order) (byTier limits) e tier most
 
 pub going-start :
-    {limits ranking : List ℕ} {e : ℕ → ℕ} {tier most : ℕ} → ranking ≡ ranked (byLimit (byTier limits)) tiers → sum e tiers ≤ 900 * M → tier < tiers
-    → Going limits e tier most ranking 0 most false
-going-start {limits} {ranking} {e} {tier} {most} q h l =
+    {limits ranking : List ℕ} {e : ℕ → ℕ} {tier most : ℕ} → RankedBy limits ranking → sum e tiers ≤ 900 * M → tier < tiers
+    → Going limits ranking e tier most ranking 0 most false
+going-start {limits} {ranking} {e} {tier} {most} r h l =
     let L = byTier limits in
-    let le = byLimit L in
-    let o = byLimit-ordered L in
-    rw q (record {
-      inside = ranked-lists le tiers .only;
-      rises = all-rising tiers le L e (ranked le tiers) o (ranked-sorted le L o tiers) (ranked-lists le tiers);
-      amounts = omega (arith, ranked-lists le tiers .once e);
-      through = rest-is tiers le L o e tier most l;
-    })
+    let le = r .order in
+    let lists = ranked-lists le tiers in
+    record {
+      inside = rw (r .ranks) (lists .only);
+      rises = rw (r .ranks) (all-rising tiers le L e (ranked le tiers) (r .ordered) (ranked-sorted le L (r .ordered) tiers) lists);
+      amounts = rw (r .ranks) (omega (arith, lists .once e));
+      through = λ q. rw (q .ranks) (rest-is tiers (q .order) L (q .ordered) e tier most l);
+    }
 
 -- the tiers from a place of the ranking on, the first apart from the others
 pub going-next :
-    {limits : List ℕ} {e : ℕ → ℕ} (ranking : List ℕ) {tier most s room : ℕ} {met : Bool} (i : ℕ) → Going limits e tier most (drop i ranking) s room met → i < length ranking
-    → Going limits e tier most (getD ranking i 0 ∷ drop (i + 1) ranking) s room met
+    {limits : List ℕ} {e : ℕ → ℕ} (ranking : List ℕ) {tier most s room : ℕ} {met : Bool} (i : ℕ) → Going limits ranking e tier most (drop i ranking) s room met → i < length ranking
+    → Going limits ranking e tier most (getD ranking i 0 ∷ drop (i + 1) ranking) s room met
 going-next ranking i g l = rw (add-one, ← drop-cons ranking i 0 l) g
 
-module _ {limits : List ℕ} {e : ℕ → ℕ} {tier most s room u : ℕ} {met : Bool} {us : List ℕ} (g : Going limits e tier most (u ∷ us) s room met) where
+module _ {limits ranking : List ℕ} {e : ℕ → ℕ} {tier most s room u : ℕ} {met : Bool} {us : List ℕ} (g : Going limits ranking e tier most (u ∷ us) s room met) where
   pub going-tier : u < tiers
   going-tier = g .inside .0
 
@@ -53,7 +53,7 @@ module _ {limits : List ℕ} {e : ℕ → ℕ} {tier most s room u : ℕ} {met :
   going-fits = omega (arith, g .amounts)
 
   -- with r standing behind the tier
-  pub going-step : (r : ℕ) → r ≡ min (s + e u) (byTier limits u) → Going limits e tier most us r (if met || u =? tier then min room (byTier limits u - r) else room) (met || u =? tier)
+  pub going-step : (r : ℕ) → r ≡ min (s + e u) (byTier limits u) → Going limits ranking e tier most us r (if met || u =? tier then min room (byTier limits u - r) else room) (met || u =? tier)
   unfolding sumOf rest
   going-step r q =
       let n : next (byTier limits) e s u ≡ r = next-is (byTier limits) e u s (g .rises .0) ∙ sym q in
@@ -61,11 +61,11 @@ module _ {limits : List ℕ} {e : ℕ → ℕ} {tier most s room u : ℕ} {met :
         inside = g .inside .1;
         rises = rising-less (byTier limits) us (byTier limits u) r (omega arith) (g .rises .1);
         amounts = omega (arith, g .amounts);
-        through = rw n at (g .through);
+        through = λ q. rw n at (g .through q);
       }
 
 pub going-end :
-    {limits : List ℕ} {e : ℕ → ℕ} {tier most s room : ℕ} {met : Bool} → Going limits e tier most [] s room met
-    → room ≡ roomIn tiers (byLimit (byTier limits)) (byTier limits) e tier most
+    {limits ranking : List ℕ} {e : ℕ → ℕ} {tier most s room : ℕ} {met : Bool} → Going limits ranking e tier most [] s room met
+    → (q : RankedBy limits ranking) → room ≡ roomIn tiers (q .order) (byTier limits) e tier most
 unfolding rest
-going-end g = g .through
+going-end g q = g .through q

@@ -1,4 +1,5 @@
 pub mod Along
 pub mod Closed
 pub mod Greatest
+pub mod Orders
 pub mod Going

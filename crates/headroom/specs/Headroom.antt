@@ -3,7 +3,7 @@
 --   Greatest            what the answer is, in the request's words
 --   leastOf             the least of a number and of f over the numbers below n that pass a test
 --   overAt roomIn headroomOf   what a tier's limit has left over; the answer in a closed form: of a group's exposures, and of a fund's group
---   rowFrom             a group's exposures out of a table
+--   rowFrom RankedBy    a group's exposures out of a table; a ranking that some order of the tiers gives, along which limits do not fall
 -- That the two are the same: `proofs/Greatest.greatest`, `greatest-only`.
 use mathlib.Core.Bool.{Bool}
 use mathlib.Core.List.{List}
@@ -11,8 +11,9 @@ use mathlib.Core.Path.{_≡_}
 use Prim.Native.Nat.{ℕ, zero, suc, _+_, _-_, _≤_, _<_, min}
 use lib.ListN.{getD}
 use Rattle.words.specs.Words.{_<?_, _=?_, if_then_else_}
-use Rattle.cascade.specs.Cascade.{ranked, excess}
+use Rattle.cascade.specs.Cascade.{tiers, byTier, ranked, excess}
 use Rattle.cascade.specs.Cut.{stands}
+use Rattle.cascade.proofs.Core.{Ordered}
 use Rattle.figures.specs.Fund.{Fund}
 use Rattle.figures.specs.Report.{charge}
 
@@ -62,6 +63,12 @@ roomIn n le L e t most = if t <? n then leastOf (le t) (overAt n le L e) n most 
 -- exposures by tier, out of a table of cells
 abbrev pub rowFrom : List ℕ → ℕ → ℕ → ℕ
 rowFrom cells at t = getD cells (at + t) 0
+
+-- a ranking, and an order that gives it: along it the limits do not fall
+pub record RankedBy (limits ranking : List ℕ) : Type 0 where
+  pub order : ℕ → ℕ → Bool
+  pub ordered : Ordered order (byTier limits)
+  pub ranks : ranking ≡ ranked order tiers
 
 -- of tier t of group g
 abbrev pub headroomOf : Fund → ℕ → ℕ → ℕ → ℕ

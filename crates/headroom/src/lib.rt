@@ -5,11 +5,11 @@ ghost use Prim.Native.Nat.{_+_, _*_, _≤_};
 ghost use lib.ListN.{length};
 ghost use Rattle.words.specs.Words.{sum};
 ghost use Rattle.wire.specs.Bytes.{M};
-ghost use Rattle.cascade.specs.Cascade.{tiers, byTier, byLimit, ranked};
-ghost use Rattle.headroom.specs.Headroom.{roomIn, rowFrom};
+ghost use Rattle.cascade.specs.Cascade.{tiers, byTier};
+ghost use Rattle.headroom.specs.Headroom.{roomIn, rowFrom, RankedBy};
 
 // Of the group whose exposures by tier stand from `at` on, once along the ranking: from the tier on, the least that any tier's limit has left over,
-// and at most `most`. A number past the tiers has no limit.
+// and at most `most`. A number past the tiers has no limit. Whatever order of the tiers gives the ranking, it is the answer by that order.
 pub fn room(
     limits: [u64; TIERS],
     cells: &[u64],
@@ -18,8 +18,8 @@ pub fn room(
     tier: usize,
     most: u64,
 ) -> u64
-    requires { ⌜ (ranking ≡ ranked (byLimit (byTier limits)) tiers) × (at + tiers ≤ length (now cells)) × (sum (rowFrom (now cells) at) tiers ≤ 900 * M) ⌝ }
-    ensures { λ r. ⌜ r ≡ roomIn tiers (byLimit (byTier limits)) (byTier limits) (rowFrom (now (cells .entry)) at) tier most ⌝ }
+    requires { ⌜ (RankedBy limits ranking) × (at + tiers ≤ length (now cells)) × (sum (rowFrom (now cells) at) tiers ≤ 900 * M) ⌝ }
+    ensures { λ r. ⌜ ((q : RankedBy limits ranking) → r ≡ roomIn tiers (q .order) (byTier limits) (rowFrom (now (cells .entry)) at) tier most) ⌝ }
 {
     if TIERS <= tier {
         return most;

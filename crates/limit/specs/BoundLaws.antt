@@ -1,12 +1,12 @@
--- What a limit comes to at most, for every row that refusal 4 lets pass and any W: times-le, greatest-le, numerator-le, limit-le.
+-- What a limit comes to at most, for every row that refusal 4 lets pass and any W: times-le, greatest-le, unrounded-le, limit-le.
 use Prim.Native.Nat.{ℕ, _*_, _≤_}
 use native.Mathlib.Nat.{le-trans, mul-le-mul-left, mul-le-mul-right}
 use native.Mathlib.Omega.{arith}
 use lib.IntN.{ℤ}
 use Rattle.wire.specs.Bytes.{M}
 use Rattle.limit.specs.declared.Row.{Row}
-use Rattle.limit.specs.Limit.{tenThousandths, counted, greatest, numerator, limitOf}
-use Rattle.limit.specs.Bounds.{mostProduct, mostNumerator, mostLimit, RowFits}
+use Rattle.limit.specs.Limit.{tenThousandths, counted, greatest, unrounded, limitOf}
+use Rattle.limit.specs.Bounds.{mostProduct, mostUnrounded, mostLimit, RowFits}
 
 -- a bound on a product from bounds on its factors
 pub times-le : {a b m n : ℕ} → a ≤ m → b ≤ n → a * b ≤ m * n
@@ -17,10 +17,10 @@ module _ (row : Row) (percent vaf : ℕ) (base : ℤ) (w : ℕ) (r : RowFits row
   unfolding greatest
   greatest-le = omega (arith, times-le (r .rate) v, times-le (r .second) v, times-le (r .base) b)
 
-  pub numerator-le : numerator tenThousandths row percent vaf base w ≤ mostNumerator
-  unfolding numerator
-  numerator-le = times-le greatest-le p
+  pub unrounded-le : unrounded tenThousandths row percent vaf base w ≤ mostUnrounded
+  unfolding unrounded
+  unrounded-le = times-le greatest-le p
 
   pub limit-le : limitOf tenThousandths row percent vaf base w ≤ mostLimit
   unfolding limitOf
-  limit-le = omega (arith, numerator-le)
+  limit-le = omega (arith, unrounded-le)

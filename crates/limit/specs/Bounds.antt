@@ -1,7 +1,7 @@
 -- What a row, and so a limit, is at most.
 --   mostRate        the most that a rate may be
 --   mostProduct     the most that a product comes to, in parts of a cent, tenThousandths to the cent
---   mostNumerator   the most that a numerator comes to, in parts of a cent, tenThousandths × 100 to the cent
+--   mostUnrounded   the most that a limit comes to before it is rounded, in parts of a cent, tenThousandths × 100 to the cent
 --   mostLimit       the most that a limit comes to, in cents
 --   RowFits         a row that refusal 4 lets pass, in ten-thousandths
 use Prim.Native.Nat.{ℕ, _*_, _/_, _≤_}
@@ -18,12 +18,12 @@ abbrev pub mostProduct : ℕ
 mostProduct = mostRate * M
 
 -- 1.5 · 10^19, which 64 bits just hold (1.84 · 10^19): a product times a percent, at most 100 by refusal 4
-abbrev pub mostNumerator : ℕ
-mostNumerator = mostProduct * 100
+abbrev pub mostUnrounded : ℕ
+mostUnrounded = mostProduct * 100
 
 -- one and a half times M
 abbrev pub mostLimit : ℕ
-mostLimit = mostNumerator / (tenThousandths * 100)
+mostLimit = mostUnrounded / (tenThousandths * 100)
 
 -- refusal 4 is "a rate over 1,500 (..) or fixed amount over M", and "reads 15,000 for version 2" (C-15); a version 1 rate counts ten times
 pub record RowFits (row : Row) : Type 0 where

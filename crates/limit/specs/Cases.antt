@@ -7,8 +7,8 @@ use lib.IntN.{ℤ, pos, negsuc}
 use Rattle.words.specs.Words.{_<?_, _=?_, every}
 use Rattle.wire.specs.Bytes.{M}
 use Rattle.limit.specs.declared.Row.{Row}
-use Rattle.limit.specs.Limit.{tenThousandths, greatest, numerator, limitOf}
-use Rattle.limit.specs.Bounds.{mostNumerator}
+use Rattle.limit.specs.Limit.{tenThousandths, greatest, unrounded, limitOf}
+use Rattle.limit.specs.Bounds.{mostUnrounded}
 
 record Case : Type 0 where
   row : Row
@@ -106,15 +106,15 @@ right : Case → Bool
 right c = limitOf tenThousandths (c .row) (c .percent) (c .vaf) (c .base) (c .w) =? c .limit
 
 limits-right : every right (inPerMille ++ inTenThousandths) ≡ true
-unfolding every right inPerMille inTenThousandths limitOf numerator greatest
+unfolding every right inPerMille inTenThousandths limitOf unrounded greatest
 limits-right = refl
 
--- 64 bits hold every numerator; they don't hold ten thousand times the largest W
+-- 64 bits hold every limit before it is rounded; they don't hold ten thousand times the largest W
 abbrev words64 : ℕ
 words64 = 18_446_744_073_709_551_616
 
-numerator-fits : (mostNumerator <? words64) ≡ true
-numerator-fits = refl
+unrounded-fits : (mostUnrounded <? words64) ≡ true
+unrounded-fits = refl
 
 w-passes : (tenThousandths * (900 * M) <? words64) ≡ false
 w-passes = refl

@@ -3,7 +3,8 @@
 --   timesRow    a row with its rates so many times
 --   counted     what a capital base counts for
 --   greatest    the greatest of a row's four products, in parts of a cent, scale to the cent
---   numerator   the exact limit, in parts of a cent, scale × 100 to the cent
+--   unrounded   the limit before it is rounded, in parts of a cent, scale × 100 to the cent
+--   centsOf     so many parts, in whole cents
 --   limitOf     the limit in cents
 use Prim.Native.Nat.{ℕ, _*_, _-_, _/_, max}
 use lib.IntN.{ℤ, pos, negsuc}
@@ -33,9 +34,12 @@ greatest scale row vaf base w =
     max (max (row .rate * vaf - scale * w) (row .second * vaf)) (max (row .«base_rate» * counted base) (scale * row .fixed))
 
 -- "times the percent kept, exact": in parts of a cent, `scale` × 100 to the cent
-unfoldable pub numerator : ℕ → Row → ℕ → ℕ → ℤ → ℕ → ℕ
-numerator scale row percent vaf base w = greatest scale row vaf base w * percent
+unfoldable pub unrounded : ℕ → Row → ℕ → ℕ → ℤ → ℕ → ℕ
+unrounded scale row percent vaf base w = greatest scale row vaf base w * percent
 
 -- "rounded down once"
+abbrev pub centsOf : ℕ → ℕ → ℕ
+centsOf scale parts = parts / (scale * 100)
+
 unfoldable pub limitOf : ℕ → Row → ℕ → ℕ → ℤ → ℕ → ℕ
-limitOf scale row percent vaf base w = numerator scale row percent vaf base w / (scale * 100)
+limitOf scale row percent vaf base w = centsOf scale (unrounded scale row percent vaf base w)

@@ -1,6 +1,7 @@
 -- T2 of document 01 as a table of two groups, the first without exposures: its lines, the list of their entries, the lines along the list, and
 -- its second line put between other bytes.
 use mathlib.Core.Path.{_≡_, refl}
+use mathlib.Core.Bool.{Bool}
 use mathlib.Core.List.{List, [], _∷_, _++_}
 use Prim.Native.Nat.{ℕ}
 use lib.ListN.{replicate}
@@ -28,8 +29,11 @@ table =
 abbrev figures : Figures
 figures = record { vaf = 10000000000; «stressed_vaf» = 10000000000; «all_net» = 600000007; unlimited = 7; «a3_sum» = 3; «a3_limit» = 1 }
 
-abbrev order : List ℕ
-order = ranked (byLimit (byTier (table .limits))) tiers
+abbrev order : ℕ → ℕ → Bool
+order = byLimit (byTier (table .limits))
+
+abbrev by-rank : List ℕ
+by-rank = ranked order tiers
 
 abbrev first : Line
 first = record { top = 3; tier = 0; tiers = 5; exposure = 300000000; limit = 250000000; left = 250000000; excess = 50000000 }
@@ -40,17 +44,17 @@ second = record { top = 3; tier = 2; tiers = 5; exposure = 300000000; limit = 50
 abbrev lines : List Line
 lines = first ∷ second ∷ []
 
-t2-lines : linesOf (tableFund (table .limits) (table .cells) (table .heads) 4 2 figures) ≡ lines
+t2-lines : linesOf (tableFund order (table .limits) (table .cells) (table .heads) 4 2 figures) ≡ lines
 unfolding ranks insert ranked next standing left excess sum eachOf countFrom tierSet lineOf cellLines row tableFund
 t2-lines = refl
 
-t2-listed : (entriesOf (table .cells) 2 order ≡ 16 ∷ 18 ∷ []) × (tried (shown (table .cells)) 0 (allEntries 2 order) (1 ∷ 2 ∷ 3 ∷ 4 ∷ []) ≡ 16 ∷ 18 ∷ 29 ∷ 4 ∷ []) × (listedLines table (16 ∷ 18 ∷ 29 ∷ 4 ∷ []) 2 ≡ lines)
+t2-listed : (entriesOf (table .cells) 2 by-rank ≡ 16 ∷ 18 ∷ []) × (tried (shown (table .cells)) 0 (allEntries 2 by-rank) (1 ∷ 2 ∷ 3 ∷ 4 ∷ []) ≡ 16 ∷ 18 ∷ 29 ∷ 4 ∷ []) × (listedLines table (16 ∷ 18 ∷ 29 ∷ 4 ∷ []) 2 ≡ lines)
 unfolding ranks insert ranked next eachOf those countFrom tried entryLine linesAlong
 t2-listed = (refl, refl, refl)
 
 t2-charge :
-    (setOf (row (table .cells) 1) ≡ 5) × (groupExcess (tableFund (table .limits) (table .cells) (table .heads) 4 2 figures) ≡ 100000000)
-    × (charge (tableFund (table .limits) (table .cells) (table .heads) 4 2 figures) ≡ 100000002)
+    (setOf (row (table .cells) 1) ≡ 5) × (groupExcess (tableFund order (table .limits) (table .cells) (table .heads) 4 2 figures) ≡ 100000000)
+    × (charge (tableFund order (table .limits) (table .cells) (table .heads) 4 2 figures) ≡ 100000002)
 unfolding ranks insert ranked next standing left excess excessSum sum groupExcess charge row setOf tableFund
 t2-charge = (refl, refl, refl)
 

@@ -1,5 +1,6 @@
 -- The fund of a table: a top place has its group's row and any other place nothing. So the fund's lines are those along the list of entries.
 use mathlib.Core.Path.{_≡_, refl, ap, sym, _∙_}
+use mathlib.Core.Bool.{Bool}
 use mathlib.Core.List.{List, [], _∷_}
 use Prim.Native.Nat.{ℕ, _+_, _^_, _≤_, _<_}
 use native.Mathlib.Omega.{arith}
@@ -9,8 +10,9 @@ use lib.Count.{ones}
 use lib.ListN.{length, getD}
 use Rattle.words.specs.Words.{_<?_, _=?_, if_then_else_, sum, sumOf, eachOf, countFrom}
 use Rattle.words.specs.Sums.{sum-each, sum-same, sum-count, sum-length, each-same, all-map, all-count}
-use Rattle.cascade.specs.Cascade.{tiers, byTier, byLimit, ranked, left, excess, standing}
-use Rattle.cascade.proofs.Ranking.{ranked-only, ranked-sorted, byLimit-ordered}
+use Rattle.cascade.specs.Cascade.{tiers, byTier, ranked, left, excess, standing}
+use Rattle.cascade.proofs.Core.{Ordered}
+use Rattle.cascade.proofs.Ranking.{ranked-only, ranked-sorted}
 use Rattle.figures.specs.declared.Figures.{Figures}
 use Rattle.figures.specs.Fund.{Fund}
 use Rattle.figures.specs.Report.{ranking, tierSet, lineOf, cellLines, groupLines, linesOf}
@@ -31,15 +33,9 @@ module _ {heads : List ℕ} {places groups : ℕ} (H : Heads heads places groups
   alone : (j k : ℕ) → j < groups → k < groups → (j ≡ k → ⊥) → h j ≡ h k → ⊥
   alone j k p q d e = elim (decLt j k) [ yes l ↦ omega (arith, H .rise j k l q) | no l ↦ omega (arith, H .rise k j (omega arith) p) ]
 
-  module _ (limits cells : List ℕ) (figures : Figures) where
+  module _ (order : ℕ → ℕ → Bool) (limits cells : List ℕ) (figures : Figures) where
     abbrev F : Fund
-    F = tableFund limits cells heads places groups figures
-
-    abbrev L : ℕ → ℕ
-    L = byTier limits
-
-    abbrev order : List ℕ
-    order = ranked (byLimit L) tiers
+    F = tableFund order limits cells heads places groups figures
 
     pub head-exposure : (k : ℕ) → k < groups → (t : ℕ) → F .exposure (h k) t ≡ byTier (row cells k) t
     unfolding tableFund
@@ -79,16 +75,16 @@ module _ {heads : List ℕ} {places groups : ℕ} (H : Heads heads places groups
         (λ k l. let z : 0 + k ≡ k = omega arith in rw z (sum-length (groupLines F (h k) (ranking F)) ∙ group-count F (h k) ∙ ap ones (set-head k l)))
 
 -- the lines along the list of entries, where the sets are those of the groups' tiers
-module _ (S : Source) {places groups : ℕ} (H : Heads (S .heads) places groups) (few : groups ≤ 500)
+module _ (order : ℕ → ℕ → Bool) (S : Source) (o : Ordered order (byTier (S .limits))) {places groups : ℕ} (H : Heads (S .heads) places groups) (few : groups ≤ 500)
     (sets : (k : ℕ) → k < groups → getD (S .sets) k 0 ≡ setOf (row (S .cells) k)) (figures : Figures) where
   abbrev G : Fund
-  G = tableFund (S .limits) (S .cells) (S .heads) places groups figures
+  G = tableFund order (S .limits) (S .cells) (S .heads) places groups figures
 
   abbrev M : ℕ → ℕ
   M = byTier (S .limits)
 
   abbrev by-rank : List ℕ
-  by-rank = ranked (byLimit M) tiers
+  by-rank = ranked order tiers
 
   module _ (k : ℕ) (l : k < groups) where
     abbrev top : ℕ
@@ -100,24 +96,24 @@ module _ (S : Source) {places groups : ℕ} (H : Heads (S .heads) places groups)
     line-is : (t : ℕ) → t < tiers → lineOf G top t ≡ tierLine S k (standing M x 0 by-rank t) t
     unfolding lineOf left excess tableFund
     line-is t m =
-        let e : (u : ℕ) → u < tiers → G .exposure top u ≡ x u = λ u _. head-exposure H (S .limits) (S .cells) figures k l u in
-        let b = ranked-only (byLimit M) tiers in
+        let e : (u : ℕ) → u < tiers → G .exposure top u ≡ x u = λ u _. head-exposure H order (S .limits) (S .cells) figures k l u in
+        let b = ranked-only order tiers in
         same-line (tierLine S k (standing M x 0 by-rank t) t) _ _ _ _ _ _ _ refl refl
-        (set-head H (S .limits) (S .cells) figures k l ∙ sym (sets k l)) (e t m) refl
+        (set-head H order (S .limits) (S .cells) figures k l ∙ sym (sets k l)) (e t m) refl
         (left-same tiers M M (G .exposure top) x (λ _ _. refl) e by-rank t m b) (excess-same tiers M M (G .exposure top) x (λ _ _. refl) e by-rank t m b)
 
     tier-is : (t : ℕ) → t < tiers → cellLines G top t ≡ tierLines S k 0 by-rank t
     unfolding cellLines
-    tier-is t m = rw (head-exposure H (S .limits) (S .cells) figures k l t, line-is t m)
+    tier-is t m = rw (head-exposure H order (S .limits) (S .cells) figures k l t, line-is t m)
 
     group-is : groupLines G top (ranking G) ≡ eachOf (tierLines S k 0 by-rank) by-rank
     unfolding tableFund
-    group-is = each-same (cellLines G top) (tierLines S k 0 by-rank) by-rank (all-map tier-is by-rank (ranked-only (byLimit M) tiers))
+    group-is = each-same (cellLines G top) (tierLines S k 0 by-rank) by-rank (all-map tier-is by-rank (ranked-only order tiers))
 
   pub lines-along : linesOf G ≡ linesAlong S noGroup 0 (entriesOf (S .cells) groups by-rank)
   lines-along =
-      lines-heads H (S .limits) (S .cells) figures
+      lines-heads H order (S .limits) (S .cells) figures
       ∙ each-same (λ k. groupLines G (getD (S .heads) k 0) (ranking G)) (λ k. eachOf (tierLines S k 0 by-rank) by-rank) (countFrom 0 groups)
       (all-map (λ k q. group-is k (omega (arith, q .1))) (countFrom 0 groups) (all-count 0 groups))
-      ∙ sym (along-groups S (byLimit M) (byLimit-ordered M) by-rank (ranked-sorted (byLimit M) M (byLimit-ordered M) tiers) (ranked-only (byLimit M) tiers) groups 0 noGroup 0 (λ j _ q r. omega arith))
+      ∙ sym (along-groups S order o by-rank (ranked-sorted order M o tiers) (ranked-only order tiers) groups 0 noGroup 0 (λ j _ q r. omega arith))
       ∙ ap (linesAlong S noGroup 0) (sym (entries-each (S .cells) groups by-rank))

@@ -1,5 +1,6 @@
 -- The report of a table that is listed: its lines along the list, and the header before them.
 use mathlib.Core.Path.{_≡_, ap, sym, _∙_}
+use mathlib.Core.Bool.{Bool}
 use mathlib.Core.List.{List, _++_}
 use Prim.Native.Nat.{ℕ, _+_, _*_, _-_, _≤_}
 use native.Mathlib.Omega.{arith}
@@ -8,8 +9,9 @@ use lib.Seq.{length-take-le}
 use Rattle.words.specs.Words.{sumOf}
 use Rattle.wire.specs.Bytes.{M, placed}
 use Rattle.wire.proofs.Laws.{placed-before}
-use Rattle.cascade.specs.Cascade.{tiers, byTier, byLimit, ranked}
+use Rattle.cascade.specs.Cascade.{tiers, byTier, ranked}
 use Rattle.rows.specs.Rows.{mostGroups}
+use Rattle.cascade.proofs.Core.{Ordered}
 use Rattle.cascade.proofs.Ranking.{ranked-only, ranked-once, length-ranked}
 use Rattle.figures.specs.declared.Head.{Head}
 use Rattle.figures.specs.declared.Line.{Line}
@@ -44,38 +46,38 @@ headWith f n x over =
       charge = x + over;
     }
 
-module _ {S : Source} {list : List ℕ} {groups n : ℕ} (t : Table S list groups n) where
+module _ {order : ℕ → ℕ → Bool} {S : Source} {list : List ℕ} {groups n : ℕ} (t : Table order S list groups n) where
   abbrev by-rank : List ℕ
-  by-rank = ranked (byLimit (byTier (S .limits))) tiers
+  by-rank = ranked order tiers
 
   abbrev pub along : List Line
   along = listedLines S list n
 
   amounts : sumOf (exposureIn (S .cells)) (take n list) ≤ 900 * M
-  amounts = rw (t .entries) (omega (arith, t .amounts, entries-sum by-rank (ranked-once (byLimit (byTier (S .limits))) tiers) (S .cells) groups))
+  amounts = rw (t .entries) (omega (arith, t .amounts, entries-sum by-rank (ranked-once order tiers) (S .cells) groups))
 
   pub table-entries : (room : ℕ) → headSize + lineSize * n ≤ room → Entries S list n room
   table-entries room h =
       record {
         long = t .long;
-        inside = rw (t .entries) (all-inside by-rank (ranked-only (byLimit (byTier (S .limits))) tiers) S groups (t .rows) (t .places) (t .tops));
+        inside = rw (t .entries) (all-inside by-rank (ranked-only order tiers) S groups (t .rows) (t .places) (t .tops));
         amounts = amounts;
         fits = h;
       }
 
   pub lines-few : n ≤ tiers * mostGroups
   lines-few =
-      omega (arith, length-take-le n list (t .long), ap length (t .entries), t .few, entries-few by-rank (ranked-once (byLimit (byTier (S .limits))) tiers) (S .cells) groups (length-ranked (byLimit (byTier (S .limits))) tiers))
+      omega (arith, length-take-le n list (t .long), ap length (t .entries), t .few, entries-few by-rank (ranked-once order tiers) (S .cells) groups (length-ranked order tiers))
 
   pub excess-few : excesses along ≤ 900 * M
   excess-few = omega (arith, amounts, along-within S (take n list) noGroup 0)
 
   module _ {places : ℕ} (H : Heads (S .heads) places groups) (f : Figures) where
     abbrev F : Fund
-    F = tableFund (S .limits) (S .cells) (S .heads) places groups f
+    F = tableFund order (S .limits) (S .cells) (S .heads) places groups f
 
     lines-are : along ≡ linesOf F
-    lines-are = ap (linesAlong S noGroup 0) (t .entries) ∙ sym (lines-along S H (t .few) (t .each) f)
+    lines-are = ap (linesAlong S noGroup 0) (t .entries) ∙ sym (lines-along order S (t .ordered) H (t .few) (t .each) f)
 
     pub count-is : n ≡ length (linesOf F)
     count-is = sym (length-take-le n list (t .long)) ∙ sym (along-long S (take n list) noGroup 0) ∙ ap length lines-are
@@ -101,23 +103,23 @@ module _ {S : Source} {list : List ℕ} {groups n : ℕ} (t : Table S list group
         ∙ placed-before start head lines (omega (arith, head-long (headOf F), joined-long (linesOf F), count-is))
         ∙ ap (λ (k : ℕ). head ++ lines ++ drop k start) z
 
--- a table that `list_lines` has listed by the rank that the limits give
+-- a table that `list_lines` has listed by rank
 pub listed-table :
-    (S : Source) {groups : ℕ} {sets₀ list₀ list : List ℕ} {n : ℕ}
-    → Listable (S .cells) groups (ranked (byLimit (byTier (S .limits))) tiers) sets₀ list₀ → Listed (S .cells) groups (ranked (byLimit (byTier (S .limits))) tiers) sets₀ (S .sets) list₀ list n
-    → length (S .sets) ≡ length sets₀ → groups ≤ length (S .heads) → allExposures (S .cells) groups ≤ 900 * M → Table S list groups n
-listed-table S {groups} {sets₀} {list₀} {list} {n} a l size tops few =
-    let order = ranked (byLimit (byTier (S .limits))) tiers in
-    let o = ranked-once (byLimit (byTier (S .limits))) tiers in
-    let z : 0 + length (entriesOf (S .cells) groups order) ≡ n = omega (arith, l .count) in
-    let all : length (allEntries groups order) ≡ tiers * groups = all-long order (length-ranked (byLimit (byTier (S .limits))) tiers) groups in
+    (order : ℕ → ℕ → Bool) (S : Source) → Ordered order (byTier (S .limits)) → {groups : ℕ} {sets₀ list₀ list : List ℕ} {n : ℕ}
+    → Listable (S .cells) groups (ranked order tiers) sets₀ list₀ → Listed (S .cells) groups (ranked order tiers) sets₀ (S .sets) list₀ list n
+    → length (S .sets) ≡ length sets₀ → groups ≤ length (S .heads) → allExposures (S .cells) groups ≤ 900 * M → Table order S list groups n
+listed-table order S o {groups} {sets₀} {list₀} {list} {n} a l size tops few =
+    let by-rank = ranked order tiers in
+    let z : 0 + length (entriesOf (S .cells) groups by-rank) ≡ n = omega (arith, l .count) in
+    let all : length (allEntries groups by-rank) ≡ tiers * groups = all-long by-rank (length-ranked order tiers) groups in
     record {
+      ordered = o;
       few = a .few;
       rows = a .rows;
       places = omega (arith, a .places);
       tops = tops;
-      long = omega (arith, ap length (l .entries), tried-long (shown (S .cells)) (allEntries groups order) 0 list₀, l .few, a .room);
+      long = omega (arith, ap length (l .entries), tried-long (shown (S .cells)) (allEntries groups by-rank) 0 list₀, l .few, a .room);
       each = set-each (S .cells) groups sets₀ (l .tierSets);
-      entries = ap (take n) (l .entries) ∙ ap (λ (k : ℕ). take k (tried (shown (S .cells)) 0 (allEntries groups order) list₀)) (sym z) ∙ tried-first (shown (S .cells)) (allEntries groups order) 0 list₀ (omega (arith, a .room));
+      entries = ap (take n) (l .entries) ∙ ap (λ (k : ℕ). take k (tried (shown (S .cells)) 0 (allEntries groups by-rank) list₀)) (sym z) ∙ tried-first (shown (S .cells)) (allEntries groups by-rank) 0 list₀ (omega (arith, a .room));
       amounts = few;
     }

@@ -8,14 +8,16 @@
 --   Table          a table that is listed
 --   Ready          what a report is put from
 --   Reported       the report of a table is put
+use mathlib.Core.Bool.{Bool}
 use mathlib.Core.Path.{_≡_}
 use mathlib.Core.List.{List, _++_, map}
 use Prim.Native.Nat.{ℕ, _+_, _*_, _≤_, _<_}
 use lib.ListN.{length, getD, take, drop}
 use Rattle.words.specs.Words.{sum, sumOf, countFrom, All}
 use Rattle.wire.specs.Bytes.{M, placed}
-use Rattle.cascade.specs.Cascade.{tiers, byTier, byLimit, ranked}
+use Rattle.cascade.specs.Cascade.{tiers, byTier, ranked}
 use Rattle.cascade.specs.Promise.{Once}
+use Rattle.cascade.proofs.Core.{Ordered}
 use Rattle.figures.specs.declared.Line.{Line}
 use Rattle.figures.specs.declared.Figures.{Figures}
 use Rattle.figures.specs.Report.{headSize, lineSize, lineBytes, linesOf, report}
@@ -39,10 +41,10 @@ pub record Listable (cells : List ℕ) (groups : ℕ) (ranking sets list : List 
   pub room : tiers * groups ≤ length list
   pub ranks : Once tiers ranking
 
--- n is the number of lines, whatever the limits, top places and figures are: an entry for each, which the list has first.
+-- n is the number of lines, whatever the order, limits, top places and figures are: an entry for each, which the list has first.
 -- Behind them stands at the most an entry that was tried last. The set of each group's tiers is at its number; all else is as before.
 pub record Listed (cells : List ℕ) (groups : ℕ) (ranking sets₀ sets list₀ list : List ℕ) (n : ℕ) : Type 0 where
-  pub lines : (limits heads : List ℕ) (places : ℕ) (figures : Figures) → Heads heads places groups → n ≡ length (linesOf (tableFund limits cells heads places groups figures))
+  pub lines : (order : ℕ → ℕ → Bool) (limits heads : List ℕ) (places : ℕ) (figures : Figures) → Heads heads places groups → n ≡ length (linesOf (tableFund order limits cells heads places groups figures))
   pub count : n ≡ length (entriesOf cells groups ranking)
   pub few : n ≤ tiers * groups
   pub tierSets : sets ≡ placed sets₀ 0 (map (λ k. setOf (row cells k)) (countFrom 0 groups))
@@ -66,29 +68,31 @@ pub record Entries (S : Source) (list : List ℕ) (n room : ℕ) : Type 0 where
   pub amounts : sumOf (exposureIn (S .cells)) (take n list) ≤ 900 * M
   pub fits : headSize + lineSize * n ≤ room
 
--- the groups' sets of tiers, and the entries of the lines by the rank that the limits give.
+-- the groups' sets of tiers, and the entries of the lines by rank, in an order along which the limits do not fall.
 -- All exposures are parts of the nets of "N ≤ 900" assets, "each one read at most M".
-pub record Table (S : Source) (list : List ℕ) (groups n : ℕ) : Type 0 where
+pub record Table (order : ℕ → ℕ → Bool) (S : Source) (list : List ℕ) (groups n : ℕ) : Type 0 where
+  pub ordered : Ordered order (byTier (S .limits))
   pub few : groups ≤ mostGroups
   pub rows : columns * groups ≤ length (S .cells)
   pub places : groups ≤ length (S .sets)
   pub tops : groups ≤ length (S .heads)
   pub long : n ≤ length list
   pub each : (k : ℕ) → k < groups → getD (S .sets) k 0 ≡ setOf (row (S .cells) k)
-  pub entries : take n list ≡ entriesOf (S .cells) groups (ranked (byLimit (byTier (S .limits))) tiers)
+  pub entries : take n list ≡ entriesOf (S .cells) groups (ranked order tiers)
   pub amounts : allExposures (S .cells) groups ≤ 900 * M
 
 -- a table, the number of its lines, figures whose charge fits, and bytes enough
 pub record Ready (S : Source) (list : List ℕ) (n : ℕ) (figures : Figures) (room : ℕ) : Type 0 where
+  pub order : ℕ → ℕ → Bool
   pub groups : ℕ
   pub places : ℕ
-  pub table : Table S list groups n
+  pub table : Table order S list groups n
   pub heads : Heads (S .heads) places groups
   pub a3 : figures .«a3_sum» ≤ 3750 * M
   pub fits : headSize + lineSize * n ≤ room
 
--- the report of the table, whatever the places are that the top places are among; no byte behind it changes
+-- the report of the table, whatever the order is and the places that the top places are among; no byte behind it changes
 abbrev pub Reported : Source → (list : List ℕ) → (n : ℕ) → Figures → (before after : List ℕ) → Type 0
 Reported S list n figures before after =
-    (places groups : ℕ) → Heads (S .heads) places groups → Table S list groups n
-    → after ≡ report (tableFund (S .limits) (S .cells) (S .heads) places groups figures) ++ drop (length (report (tableFund (S .limits) (S .cells) (S .heads) places groups figures))) before
+    (order : ℕ → ℕ → Bool) (places groups : ℕ) → Heads (S .heads) places groups → Table order S list groups n
+    → after ≡ report (tableFund order (S .limits) (S .cells) (S .heads) places groups figures) ++ drop (length (report (tableFund order (S .limits) (S .cells) (S .heads) places groups figures))) before

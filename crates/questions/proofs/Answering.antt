@@ -1,11 +1,12 @@
 -- The tables' answers are those of the definitions: the tables have what a question needs (answerable), and give its answer (answer-is).
 use mathlib.Core.List.{List}
 use mathlib.Core.Path.{_≡_, sym, _∙_}
-use Prim.Native.Nat.{ℕ, _-_, _≤_, _<_}
+use Prim.Native.Nat.{ℕ, _≤_, _<_}
 use native.Mathlib.Omega.{arith}
 use Rattle.words.specs.Sums.{sum-same}
 use Rattle.wire.specs.Bytes.{M}
-use Rattle.cascade.specs.Cascade.{tiers, byLimit}
+use Rattle.cascade.specs.Cascade.{tiers}
+use Rattle.headroom.specs.Headroom.{RankedBy}
 use Rattle.headroom.proofs.Closed.{room-same}
 use Rattle.schedule.specs.Schedule.{scheduleOf}
 use Rattle.book.specs.declared.Counterparty.{Counterparty}
@@ -22,12 +23,17 @@ use Rattle.parties.specs.RowLaws.{top-alone, top-top, same-group, row-small}
 use Rattle.cells.specs.Cells.{Rowed}
 use Rattle.cells.specs.GroupSums.{group-le}
 use Rattle.fund.specs.declared.Fund as made
-use Rattle.fund.specs.Figures.{limit, fundOf}
+use Rattle.fund.specs.Figures.{limit, order, fundOf}
+use Rattle.fund.specs.OrderLaws.{ordered}
 use Rattle.fund.specs.Fund.{Exposed, RatedAs}
 use Rattle.report.specs.Answer.{fundIn}
 use Rattle.questions.specs.Tables.{startAt, exposuresAt, columnAt, answerAt, Answerable}
 use Rattle.questions.specs.Headroom.{asked, groupOf, tierFor, answerTo}
 use Rattle.questions.proofs.Listed.{InRange}
+
+-- the ranking that was made, by the fund's order
+abbrev pub ranked-by : {schedule b : List ℕ} {f : made.Fund} → RatedAs schedule b f → RankedBy (f .limits) (f .ranking)
+ranked-by {schedule} {b} r = record { order = order (scheduleOf schedule) (bookOf b); ordered = rw (r .limits) (ordered (scheduleOf schedule) (bookOf b)); ranks = r .ranking }
 
 module _ {schedule b : List ℕ} {groups : ℕ} {f : made.Fund} {words rows cells : List ℕ} (acc : Accepted b) (eg : groups ≡ topsTo b (C b)) (r : RatedAs schedule b f) (w : Rowed b words rows) (x : Exposed b groups cells) {place kind : ℕ} (q : InRange (C b) place kind) where
   -- its group's top place
@@ -61,7 +67,7 @@ module _ {schedule b : List ℕ} {groups : ℕ} {f : made.Fund} {words rows cell
     high = q .high;
     column = rw column-is (column-le (asked place kind) who);
     row = omega (arith, start-is, row-small b (C b) g low high, eg, x .size);
-    ranks = r .ranking;
+    ranks = ranked-by r;
     amounts = omega (arith, sum-same (exposuresAt rows cells place) (exposureOf (bookOf b) g) tiers row-is, group-le b acc tiers g low high);
   }
 
@@ -69,8 +75,8 @@ module _ {schedule b : List ℕ} {groups : ℕ} {f : made.Fund} {words rows cell
   unfolding tierOf
   tier-is = rw column-is (tier-in (asked place kind) who)
 
-  pub answer-is : answerAt (f .limits) words rows cells place kind ≡ answerTo schedule b place kind
+  pub answer-is : answerAt (order (scheduleOf schedule) (bookOf b)) (f .limits) words rows cells place kind ≡ answerTo schedule b place kind
   unfolding answerAt answerTo fundIn fundOf
   answer-is =
       let L = limit (scheduleOf schedule) (bookOf b) in
-      rw (r .limits, tier-is) (room-same tiers (byLimit L) L (exposuresAt rows cells place) (exposureOf (bookOf b) g) row-is (tierFor b place kind) M)
+      rw (r .limits, tier-is) (room-same tiers (order (scheduleOf schedule) (bookOf b)) L (exposuresAt rows cells place) (exposureOf (bookOf b) g) row-is (tierFor b place kind) M)

@@ -15,6 +15,7 @@ use Rattle.refusal.specs.declared.Checked.the-variants.{Fine}
 use Rattle.refusal.specs.declared.Answer.the-variants.{Written}
 use Rattle.headroom.specs.Headroom.{Greatest}
 use Rattle.headroom.proofs.Greatest.{greatest}
+use Rattle.schedule.specs.Schedule.{scheduleOf}
 use Rattle.book.specs.Records.{C, counterpartyAt}
 use Rattle.book.specs.Book.{bookOf}
 use Rattle.book.specs.TopLaws.{top-le, top-pos}
@@ -24,7 +25,7 @@ use Rattle.parties.specs.Rows.{topsTo}
 use Rattle.cells.specs.Cells.{Rowed}
 use Rattle.fund.specs.declared.Fund as made
 use Rattle.fund.specs.Fund.{Passed, Exposed, RatedAs}
-use Rattle.fund.specs.Figures.{fundOf}
+use Rattle.fund.specs.Figures.{order, fundOf}
 use Rattle.report.specs.Answer.{fundIn}
 use Rattle.report.proofs.Written.{ordered, report-charge}
 use Rattle.questions.specs.Questions.{answerSize, countOf, placeAt, kindAt, questionAt, goodList}
@@ -75,7 +76,7 @@ module _ (schedule b questions : List ℕ) where
   -- out of the tables
   pub answers-are :
       {groups : ℕ} {f : made.Fund} {words rows cells : List ℕ} → Accepted b → groups ≡ topsTo b (C b) → RatedAs schedule b f → Rowed b words rows → Exposed b groups cells
-      → Listed (C b) questions → amountsBytes (answersAt (f .limits) words rows cells questions (countOf questions)) ≡ answersOf schedule b questions
+      → Listed (C b) questions → amountsBytes (answersAt (order (scheduleOf schedule) (bookOf b)) (f .limits) words rows cells questions (countOf questions)) ≡ answersOf schedule b questions
   unfolding answersOf
   answers-are acc eg r w x l =
       ap amountsBytes

@@ -1,15 +1,15 @@
 -- An answer out of a fund's tables.
---   answerAt answersAt   the answer for a place and a kind; those to a list's first n questions, as bytes
+--   answerAt answersAt   by an order of the tiers, the answer for a place and a kind, and those to a list's first n questions
 --   Answerable           what the tables are to be like for it
+use mathlib.Core.Bool.{Bool}
 use mathlib.Core.List.{List, map}
-use mathlib.Core.Path.{_≡_}
 use Prim.Native.Nat.{ℕ, _+_, _*_, _-_, _≤_, _<_}
 use lib.ListN.{length, getD}
 use Rattle.words.specs.Words.{sum, countFrom}
 use Rattle.wire.specs.Bytes.{M}
-use Rattle.cascade.specs.Cascade.{tiers, byTier, byLimit, ranked}
+use Rattle.cascade.specs.Cascade.{tiers, byTier}
 use Rattle.rows.specs.Rows.{columns}
-use Rattle.headroom.specs.Headroom.{roomIn, rowFrom}
+use Rattle.headroom.specs.Headroom.{roomIn, rowFrom, RankedBy}
 use Rattle.columns.specs.Column.{tierIn, digit}
 use Rattle.questions.specs.Questions.{placeAt, kindAt}
 
@@ -24,12 +24,12 @@ exposuresAt rows cells place = rowFrom cells (startAt rows place)
 abbrev pub columnAt : List ℕ → ℕ → ℕ → ℕ
 columnAt words place kind = digit (kind - 1) (getD words place 0)
 
-unfoldable pub answerAt : List ℕ → List ℕ → List ℕ → List ℕ → ℕ → ℕ → ℕ
-answerAt limits words rows cells place kind =
-    roomIn tiers (byLimit (byTier limits)) (byTier limits) (exposuresAt rows cells place) (tierIn (columnAt words place kind)) M
+unfoldable pub answerAt : (ℕ → ℕ → Bool) → List ℕ → List ℕ → List ℕ → List ℕ → ℕ → ℕ → ℕ
+answerAt order limits words rows cells place kind =
+    roomIn tiers order (byTier limits) (exposuresAt rows cells place) (tierIn (columnAt words place kind)) M
 
-abbrev pub answersAt : List ℕ → List ℕ → List ℕ → List ℕ → List ℕ → ℕ → List ℕ
-answersAt limits words rows cells questions n = map (λ k. answerAt limits words rows cells (placeAt questions k) (kindAt questions k)) (countFrom 0 n)
+abbrev pub answersAt : (ℕ → ℕ → Bool) → List ℕ → List ℕ → List ℕ → List ℕ → List ℕ → ℕ → List ℕ
+answersAt order limits words rows cells questions n = map (λ k. answerAt order limits words rows cells (placeAt questions k) (kindAt questions k)) (countFrom 0 n)
 
 pub record Answerable (limits ranking words rows cells : List ℕ) (place kind : ℕ) : Type 0 where
   pub words-size : place < length words
@@ -38,5 +38,5 @@ pub record Answerable (limits ranking words rows cells : List ℕ) (place kind :
   pub high : kind < 12
   pub column : columnAt words place kind < columns
   pub row : startAt rows place + tiers ≤ length cells
-  pub ranks : ranking ≡ ranked (byLimit (byTier limits)) tiers
+  pub ranks : RankedBy limits ranking
   pub amounts : sum (exposuresAt rows cells place) tiers ≤ 900 * M

@@ -13,6 +13,7 @@ ghost use Rattle.refusal.specs.declared.Checked.the-variants.{Fine};
 ghost use Rattle.book.specs.Records.{C};
 ghost use Rattle.book.specs.Book.{bookOf};
 ghost use Rattle.exposure.specs.Values.{fundCheck};
+ghost use Rattle.headroom.specs.Headroom.{RankedBy};
 ghost use Rattle.columns.specs.Column.{Tiered};
 ghost use Rattle.parties.specs.Rows.{topsTo};
 ghost use Rattle.cells.specs.Cells.{Rowed};
@@ -78,7 +79,7 @@ fn answer(
     cells: &[u64],
 ) -> u64
     requires { ⌜ (Answerable limits ranking (now words) (now rows) (now cells) place kind) × (Tiered (now tiers)) ⌝ }
-    ensures { λ r. ⌜ r ≡ answerAt limits (now (words .entry)) (now (rows .entry)) (now (cells .entry)) place kind ⌝ }
+    ensures { λ r. ⌜ ((q : RankedBy limits ranking) → r ≡ answerAt (q .order) limits (now (words .entry)) (now (rows .entry)) (now (cells .entry)) place kind) ⌝ }
 {
     let who = place as usize;
     let wanted = kind as u64;
@@ -100,7 +101,7 @@ fn put_answers(
     answers: &mut [u8],
 )
     requires { ⌜ (n ≤ mostQuestions) × (questionSize * n ≤ length (now questions)) × (answerSize * n ≤ length (now answers)) × ((k : ℕ) → k < n → Answerable limits ranking (now words) (now rows) (now cells) (placeAt (now questions) k) (kindAt (now questions) k)) ⌝ }
-    ensures { λ _. ⌜ now (answers .exit) ≡ placed (now (answers .entry)) 0 (amountsBytes (answersAt limits (now (words .entry)) (now (rows .entry)) (now (cells .entry)) (now (questions .entry)) n)) ⌝ }
+    ensures { λ _. ⌜ ((q : RankedBy limits ranking) → now (answers .exit) ≡ placed (now (answers .entry)) 0 (amountsBytes (answersAt (q .order) limits (now (words .entry)) (now (rows .entry)) (now (cells .entry)) (now (questions .entry)) n))) ⌝ }
 {
     let tiers = columns::tiers();
     let mut k = 0;

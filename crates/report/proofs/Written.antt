@@ -19,9 +19,9 @@ use Rattle.book.specs.Book.{bookOf, parentOf}
 use Rattle.book.specs.Accepted.{Accepted}
 use Rattle.exposure.specs.Values.{fundCheck}
 use Rattle.exposure.specs.Sums.{exposureOf}
-use Rattle.cascade.specs.Cascade.{tiers, byTier, byLimit}
+use Rattle.cascade.specs.Cascade.{tiers, byTier}
 use Rattle.cascade.proofs.Core.{Ordered}
-use Rattle.cascade.proofs.Ranking.{ranked-once, byLimit-ordered}
+use Rattle.cascade.proofs.Ranking.{ranked-once}
 use Rattle.rows.specs.Rows.{mostGroups, columns, row, row-at}
 use Rattle.figures.specs.Fund.{Fund}
 use Rattle.figures.specs.Report.{headSize, lineSize, charge, report}
@@ -41,7 +41,8 @@ use Rattle.parties.specs.RowLaws.{tops-le, lower, headed-length, Head, head-is,
 use Rattle.cells.specs.Cells.{rowAt}
 use Rattle.cells.specs.GroupSums.{exposure-none, row-tier, rows-le}
 use Rattle.fund.specs.declared.Fund as made
-use Rattle.fund.specs.Figures.{limit, fundOf}
+use Rattle.fund.specs.Figures.{order, fundOf}
+use Rattle.fund.specs.OrderLaws as order-laws
 use Rattle.fund.specs.Fund.{Passed, Exposed, RatedAs}
 use Rattle.report.specs.Answer.{fundIn, reportOf, Answered}
 use Rattle.report.specs.Tables.{Headed, Room}
@@ -49,7 +50,7 @@ use Rattle.report.proofs.Chain.{fine}
 
 pub ordered : (schedule book : List ℕ) → Ordered (fundIn schedule book .order) (fundIn schedule book .limit)
 unfolding fundIn fundOf
-ordered schedule book = byLimit-ordered (limit (scheduleOf schedule) (bookOf book))
+ordered schedule book = order-laws.ordered (scheduleOf schedule) (bookOf book)
 
 -- demand 3, of the report with any bytes behind it
 report-cuts : (schedule book more : List ℕ) → LeastCuts (fundIn schedule book) (reportOf schedule book ++ more)
@@ -86,8 +87,15 @@ module _ {b heads : List ℕ} (H : Headed b heads) {groups : ℕ} (eg : groups �
         omega (arith, each, rows-le acc (e .posted) eg)
 
     module _ {schedule : List ℕ} {r : made.Fund} (d : RatedAs schedule b r) where
+      abbrev ranks : ℕ → ℕ → Bool
+      ranks = order (scheduleOf schedule) (bookOf b)
+
+      -- along it the limits that were made do not fall
+      ranks-ordered : Ordered ranks (byTier (r .limits))
+      ranks-ordered = rw (d .limits) (order-laws.ordered (scheduleOf schedule) (bookOf b))
+
       abbrev written : Fund
-      written = tableFund (r .limits) cells heads (C b) groups (r .figures)
+      written = tableFund ranks (r .limits) cells heads (C b) groups (r .figures)
 
       -- a top place has its group's row, any other place has nothing
       exposure-is : (g t : ℕ) → 1 ≤ g → g ≤ C b → t < tiers → written .exposure g t ≡ exposureOf (bookOf b) g t
@@ -99,10 +107,10 @@ module _ {b heads : List ℕ} (H : Headed b heads) {groups : ℕ} (eg : groups �
               let k = topsTo b (g - 1) in
               let inside : k < groups = omega (arith, lower b g (C b) l h alone) in
               let at : getD heads k 0 ≡ g = rw (H .stored) (head-at b (H .before) (C b) (H .room) g l h alone) in
-              rw at at (head-exposure heads-are (r .limits) cells (r .figures) k inside t ∙ row-is k t inside n)
+              rw at at (head-exposure heads-are ranks (r .limits) cells (r .figures) k inside t ∙ row-is k t inside n)
           by false z =
               let parent = pos-of-ne-zero (eqb-false (parentOf (counterpartyAt b) g) 0 z) in
-              no-exposure heads-are (r .limits) cells (r .figures) g (λ k q e. let alone = rw e at (head k q .alone) in omega arith) t
+              no-exposure heads-are ranks (r .limits) cells (r .figures) g (λ k q e. let alone = rw e at (head k q .alone) in omega arith) t
               ∙ sym (exposure-none b g parent t)
 
       same : Same written (fundIn schedule b)
@@ -110,7 +118,7 @@ module _ {b heads : List ℕ} (H : Headed b heads) {groups : ℕ} (eg : groups �
       same = record {
         groups = refl;
         tiers = refl;
-        order = λ a b _ _. rw (d .limits) refl;
+        order = λ _ _ _ _. refl;
         limit = λ u _. rw (d .limits) refl;
         exposure = exposure-is;
         vaf = d .vaf;
@@ -132,27 +140,27 @@ module _ {b heads : List ℕ} (H : Headed b heads) {groups : ℕ} (eg : groups �
         rows = e .size;
         places = q .of-sets;
         room = q .of-list;
-        ranks = rw (d .ranking) (ranked-once (byLimit (byTier (r .limits))) tiers);
+        ranks = rw (d .ranking) (ranked-once ranks tiers);
       }
 
       module _ {sets₀ sets list₀ list : List ℕ} {n : ℕ} (l : Listed cells groups (r .ranking) sets₀ sets list₀ list n) where
         pub size-is : length (reportOf schedule b) ≡ headSize + lineSize * n
-        size-is = ap length (sym report-is) ∙ report-long written ∙ ap (λ (k : ℕ). headSize + lineSize * k) (sym (l .lines (r .limits) heads (C b) (r .figures) heads-are))
+        size-is = ap length (sym report-is) ∙ report-long written ∙ ap (λ (k : ℕ). headSize + lineSize * k) (sym (l .lines ranks (r .limits) heads (C b) (r .figures) heads-are))
 
         pub lines-few : Accepted b → n ≤ tiers * mostGroups
         lines-few acc = omega (arith, l .few, tops-le b (C b), acc .counterparties)
 
-        table : Accepted b → Room groups sets₀ list₀ → length sets ≡ length sets₀ → Table (source (r .limits) cells sets heads) list groups n
-        table acc q size = listed-table (source (r .limits) cells sets heads) (rw (d .ranking) at (listable acc q)) (rw (d .ranking) at l) size heads-long (amounts acc)
+        table : Accepted b → Room groups sets₀ list₀ → length sets ≡ length sets₀ → Table ranks (source (r .limits) cells sets heads) list groups n
+        table acc q size = listed-table ranks (source (r .limits) cells sets heads) ranks-ordered (rw (d .ranking) at (listable acc q)) (rw (d .ranking) at l) size heads-long (amounts acc)
 
         pub ready : Accepted b → Room groups sets₀ list₀ → length sets ≡ length sets₀ → {room : ℕ} → headSize + lineSize * n ≤ room → Ready (source (r .limits) cells sets heads) list n (r .figures) room
-        ready acc q size h = record { groups = groups; places = C b; table = table acc q size; heads = heads-are; a3 = d .a3-within; fits = h }
+        ready acc q size h = record { order = ranks; groups = groups; places = C b; table = table acc q size; heads = heads-are; a3 = d .a3-within; fits = h }
 
         pub answered :
             Passed schedule b → fundCheck (bookOf b) ≡ Fine → Accepted b → Room groups sets₀ list₀ → length sets ≡ length sets₀ → {before after : List ℕ} → headSize + lineSize * n ≤ length before
             → Reported (source (r .limits) cells sets heads) list n (r .figures) before after → Answered schedule b before after (Written (headSize + lineSize * n))
         answered p f acc q size {before} {after} h w =
-            let put : after ≡ report written ++ drop (length (report written)) before = w (C b) groups heads-are (table acc q size) in
+            let put : after ≡ report written ++ drop (length (report written)) before = w ranks (C b) groups heads-are (table acc q size) in
             let a : after ≡ reportOf schedule b ++ drop (headSize + lineSize * n) before = put ∙ ap₂ (λ (x : List ℕ) (k : ℕ). x ++ drop k before) report-is (ap length report-is ∙ size-is) in
             record {
               answer = ap Written (sym size-is) ∙ fine schedule b before p f (omega (arith, size-is));

@@ -1,4 +1,4 @@
--- What `limit::limit` asks at a call, from what its caller was asked: the base goes as 64 bits and comes as the same number.
+-- What `limit::limit` and `limit::unrounded` ask at a call, from what its caller was asked: the base goes as 64 bits and comes as the same number.
 use Prim.Native.Nat.{ℕ, _≤_}
 use lib.IntN.{ℤ}
 use mir.Syntax.{w64}

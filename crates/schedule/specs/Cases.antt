@@ -6,10 +6,10 @@ use lib.IntN.{ℤ, pos}
 use Rattle.words.specs.Words.{All}
 use Rattle.wire.specs.Bytes.{M}
 use Rattle.limit.specs.declared.Row.{Row}
-use Rattle.limit.specs.Limit.{greatest, numerator, limitOf}
+use Rattle.limit.specs.Limit.{greatest, unrounded, limitOf}
 use Rattle.schedule.specs.declared.Schedule.{Schedule}
 use Rattle.schedule.specs.Schedule.{counts, timesAll, published}
-use Rattle.schedule.specs.Tiers.{rateAlone, limits, limitsIn, a3LimitOf, a3LimitIn}
+use Rattle.schedule.specs.Tiers.{rateAlone, unroundedIn, limits, limitsIn, a3LimitOf, a3LimitIn}
 
 -- a fund, and its limits by tier number and A3 limit
 record Case : Type 0 where
@@ -216,6 +216,6 @@ Right : Case → Type 0
 Right c = (limits (c .schedule) (c .vaf) (c .vaf′) (c .base) (c .w) ≡ c .tiers) × (a3LimitOf (c .schedule) (c .vaf′) (c .base) ≡ c .a3)
 
 limits-right : All Right cases
-unfolding Right cases limitsIn a3LimitIn limitOf numerator greatest
+unfolding Right cases limitsIn unroundedIn a3LimitIn limitOf unrounded greatest
 limits-right =
     ((refl, refl), ((refl, refl), ((refl, refl), ((refl, refl), ((refl, refl), ((refl, refl), ((refl, refl), ((refl, refl), ((refl, refl), ((refl, refl), ((refl, refl), ((refl, refl), ((refl, refl), ((refl, refl), ((refl, refl), ((refl, refl), ((refl, refl), ((refl, refl), ((refl, refl), ((refl, refl), ((refl, refl), tt)))))))))))))))))))))

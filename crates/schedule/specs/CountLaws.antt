@@ -1,26 +1,30 @@
 -- What C-15 keeps.
 --   counted-fits         refusal 4 reads rates as they are written, and so as they count
 --   stays stays-a3       the limits of a version 1 schedule are those that its rates give in per mille
+--   stays-ranked         and its tiers rank as these do unrounded
 --   Tenfold              a version 1 schedule, and a version 2 schedule with ten times its rates
 --   tenfold-counts tenfold-check   they count alike, and refusals 1 to 4 find the same of both
 use mathlib.Core.Bool.{Bool, true, false}
-use mathlib.Core.List.{List}
-use mathlib.Core.Path.{_≡_, refl, sym, ap, _∙_}
+use mathlib.Core.List.{List, [], _∷_, map}
+use mathlib.Core.Path.{_≡_, refl, sym, ap, ap₂, _∙_}
 use Prim.Native.Nat.{ℕ, _*_}
 use native.Mathlib.Nat.{one-mul}
 use native.Mathlib.Omega.{arith}
 use lib.IntN.{ℤ}
-use lib.ListN.{length}
+use lib.ListN.{length, getD}
 use borrow.Author.Tests.{leb-true, leb-false, le-leb, lt-leb}
 use Rattle.words.specs.Words.{_≤?_, _=?_, if_then_else_}
 use Rattle.limit.specs.declared.Row.{Row}
-use Rattle.limit.specs.Limit.{perMille, timesRow}
+use Rattle.limit.specs.Limit.{perMille, tenThousandths, timesRow, centsOf}
 use Rattle.limit.specs.Bounds.{mostRate}
-use Rattle.limit.specs.ScaleLaws.{per-mille}
+use Rattle.limit.specs.ScaleLaws.{tenfold-unrounded, per-mille}
+use Rattle.cascade.specs.Cascade.{byTier, byLimit}
+use Rattle.cascade.proofs.Ranking.{byLimit-same}
 use Rattle.schedule.specs.declared.Schedule.{Schedule}
 use Rattle.schedule.specs.Schedule.{version, counts, timesAll, writtenOf, scheduleOf}
 use Rattle.schedule.specs.Check.{scheduleMarked, mostWritten, rowFits, ratesFit, fieldsCheck, scheduleCheck}
-use Rattle.schedule.specs.Tiers.{rateAlone, limits, limitsIn, a3LimitOf, a3LimitIn}
+use Rattle.schedule.specs.TierLaws.{map-at}
+use Rattle.schedule.specs.Tiers.{rateAlone, unroundedIn, unroundedLimits, limits, limitsIn, a3LimitOf, a3LimitIn}
 
 -- ten times a rate is at most 15,000 where the rate is at most 1,500
 tenfold-le : (x : ℕ) (t : Bool) → (x ≤? 1500) ≡ t → (10 * x ≤? mostRate) ≡ t
@@ -43,27 +47,48 @@ counted-fits s =
     let S = writtenOf s in
     rw (row (S .c), row (S .d), row (S .e), row (S .f), row (S .g), row (S .h), row (S .i), row (S .z))
 
-per-mille-limits : (S : Schedule) (vaf vaf′ : ℕ) (base : ℤ) (w : ℕ) → limits (timesAll 10 S) vaf vaf′ base w ≡ limitsIn perMille S vaf vaf′ base w
-unfolding limitsIn
-per-mille-limits S vaf vaf′ base w =
-    rw (
-      per-mille (S .i) 100 vaf base 0,
-      per-mille (S .i) 100 vaf′ base 0,
-      per-mille (S .h) 100 vaf base 0,
-      per-mille (S .h) 100 vaf′ base 0,
-      per-mille (S .g) (S .second) vaf′ base 0,
-      per-mille (S .g) (S .first) vaf′ base 0,
-      per-mille (S .g) 100 vaf′ base 0,
-      per-mille (S .e) (S .second) vaf′ base 0,
-      per-mille (S .e) (S .first) vaf′ base 0,
-      per-mille (S .e) 100 vaf′ base 0,
-      per-mille (S .f) 100 vaf base 0,
-      per-mille (S .c) 100 vaf base 0,
-      per-mille (S .d) 100 vaf base w,
-      per-mille (rateAlone 500) 100 vaf′ base 0,
-      per-mille (rateAlone 330) 100 vaf′ base 0,
-      per-mille (rateAlone 170) 100 vaf′ base 0,
-    )
+-- unrounded, in per mille and in ten-thousandths
+module _ (S : Schedule) (vaf vaf′ : ℕ) (base : ℤ) (w : ℕ) where
+  abbrev mille : List ℕ
+  mille = unroundedIn perMille S vaf vaf′ base w
+
+  tenfold-limits : unroundedLimits (timesAll 10 S) vaf vaf′ base w ≡ map (λ n. 10 * n) mille
+  unfolding unroundedIn
+  tenfold-limits =
+      rw (
+        tenfold-unrounded (S .i) 100 vaf base 0,
+        tenfold-unrounded (S .i) 100 vaf′ base 0,
+        tenfold-unrounded (S .h) 100 vaf base 0,
+        tenfold-unrounded (S .h) 100 vaf′ base 0,
+        tenfold-unrounded (S .g) (S .second) vaf′ base 0,
+        tenfold-unrounded (S .g) (S .first) vaf′ base 0,
+        tenfold-unrounded (S .g) 100 vaf′ base 0,
+        tenfold-unrounded (S .e) (S .second) vaf′ base 0,
+        tenfold-unrounded (S .e) (S .first) vaf′ base 0,
+        tenfold-unrounded (S .e) 100 vaf′ base 0,
+        tenfold-unrounded (S .f) 100 vaf base 0,
+        tenfold-unrounded (S .c) 100 vaf base 0,
+        tenfold-unrounded (S .d) 100 vaf base w,
+        tenfold-unrounded (rateAlone 500) 100 vaf′ base 0,
+        tenfold-unrounded (rateAlone 330) 100 vaf′ base 0,
+        tenfold-unrounded (rateAlone 170) 100 vaf′ base 0,
+      )
+
+  per-mille-limits : limits (timesAll 10 S) vaf vaf′ base w ≡ limitsIn perMille S vaf vaf′ base w
+  unfolding limitsIn
+  per-mille-limits = ap (map (centsOf tenThousandths)) tenfold-limits ∙ cents mille
+    where
+      cents : (xs : List ℕ) → map (centsOf tenThousandths) (map (λ n. 10 * n) xs) ≡ map (centsOf perMille) xs
+      cents [] = refl
+      cents (x ∷ xs) = ap₂ _∷_ (omega arith) (cents xs)
+
+  -- ten times as many parts rank alike
+  per-mille-ranked : (a b : ℕ) → byLimit (byTier (unroundedLimits (timesAll 10 S) vaf vaf′ base w)) a b ≡ byLimit (byTier mille) a b
+  per-mille-ranked a b =
+      let ten : (t : ℕ) → byTier (unroundedLimits (timesAll 10 S) vaf vaf′ base w) t ≡ 10 * byTier mille t =
+      λ t. ap (λ (xs : List ℕ). getD xs t 0) tenfold-limits ∙ map-at (λ n. 10 * n) refl mille t in
+      byLimit-same (byTier (unroundedLimits (timesAll 10 S) vaf vaf′ base w)) (byTier mille) (λ c d h. omega (arith, ten c, ten d)) a b
+      (λ _ q. omega (arith, ten a, ten b)) (λ _ q. omega (arith, ten a, ten b))
 
 -- a schedule's rates, by its version
 by-version : (s : List ℕ) {v : ℕ} → version s ≡ v → scheduleOf s ≡ timesAll (counts v) (writtenOf s)
@@ -73,6 +98,11 @@ by-version s e = ap (λ (v : ℕ). timesAll (counts v) (writtenOf s)) e
 module _ (s : List ℕ) (e : version s ≡ 1) where
   pub stays : (vaf vaf′ : ℕ) (base : ℤ) (w : ℕ) → limits (scheduleOf s) vaf vaf′ base w ≡ limitsIn perMille (writtenOf s) vaf vaf′ base w
   stays vaf vaf′ base w = rw (by-version s e) (per-mille-limits (writtenOf s) vaf vaf′ base w)
+
+  pub stays-ranked :
+      (vaf vaf′ : ℕ) (base : ℤ) (w a b : ℕ)
+      → byLimit (byTier (unroundedLimits (scheduleOf s) vaf vaf′ base w)) a b ≡ byLimit (byTier (unroundedIn perMille (writtenOf s) vaf vaf′ base w)) a b
+  stays-ranked vaf vaf′ base w a b = rw (by-version s e) (per-mille-ranked (writtenOf s) vaf vaf′ base w a b)
 
   pub stays-a3 : (vaf′ : ℕ) (base : ℤ) → a3LimitOf (scheduleOf s) vaf′ base ≡ a3LimitIn perMille (writtenOf s) vaf′ base
   unfolding a3LimitIn

@@ -1,18 +1,20 @@
 // A schedule of rates: the published one, one from bytes, refusals 1 to 4, and the limits that it gives a fund.
+use cascade::TIERS;
 use limit::Row;
 use refusal::Checked;
 use refusal::Refusal;
 ghost use mathlib.Core.Path.{_≡_};
+ghost use mathlib.Core.List.{map};
 ghost use Prim.Native.Nat.{_+_, _*_, _≤_, _<_};
 ghost use lib.ListN.{length};
 ghost use Rattle.words.specs.Words.{eachOf};
 ghost use Rattle.wire.specs.Bytes.{M, u16At, placed};
-ghost use Rattle.limit.specs.Limit.{timesRow, counted};
+ghost use Rattle.limit.specs.Limit.{tenThousandths, timesRow, counted, centsOf};
 ghost use Rattle.limit.specs.Bounds.{mostRate, mostLimit, RowFits};
 ghost use Rattle.schedule.specs.Schedule.{scheduleSize, headSize, rowSize, rowCount, version, rowAt, counts, scheduleOf, rowsOf, published, mark, rowBytes, headBytes, scheduleBytes};
 ghost use Rattle.schedule.specs.Check.{scheduleMarked, known, rowFits, ratesFit, fieldsCheck, scheduleCheck};
 ghost use Rattle.schedule.specs.Fits.{RatesFit};
-ghost use Rattle.schedule.specs.Tiers.{limits, a3LimitOf};
+ghost use Rattle.schedule.specs.Tiers.{unroundedLimits, a3LimitOf};
 
 // The versions: rates per mille, and rates in ten-thousandths.
 const PER_MILLE: u16 = 1;
@@ -249,30 +251,43 @@ pub fn check(s: &[u8]) -> Checked
     check_fields(s)
 }
 
-// The sixteen limits of a fund, by tier number; `stressed` is VAF′.
-pub fn limits(s: Schedule, vaf: u64, stressed: u64, base: i64, w: u64) -> [u64; cascade::TIERS]
+// The sixteen limits of a fund before they are rounded, by tier number; `stressed` is VAF′.
+pub fn unrounded_limits(s: Schedule, vaf: u64, stressed: u64, base: i64, w: u64) -> [u64; TIERS]
     requires { ⌜ RatesFit s ⌝ }
     requires { ⌜ (vaf ≤ M) × (stressed ≤ M) × (counted base ≤ M) ⌝ }
-    ensures { λ r. ⌜ r ≡ limits s vaf stressed base w ⌝ }
+    ensures { λ r. ⌜ r ≡ unroundedLimits s vaf stressed base w ⌝ }
 {
     [
-        limit::limit(s.i, 100, vaf, base, 0),
-        limit::limit(s.i, 100, stressed, base, 0),
-        limit::limit(s.h, 100, vaf, base, 0),
-        limit::limit(s.h, 100, stressed, base, 0),
-        limit::limit(s.g, s.second, stressed, base, 0),
-        limit::limit(s.g, s.first, stressed, base, 0),
-        limit::limit(s.g, 100, stressed, base, 0),
-        limit::limit(s.e, s.second, stressed, base, 0),
-        limit::limit(s.e, s.first, stressed, base, 0),
-        limit::limit(s.e, 100, stressed, base, 0),
-        limit::limit(s.f, 100, vaf, base, 0),
-        limit::limit(s.c, 100, vaf, base, 0),
-        limit::limit(s.d, 100, vaf, base, w),
-        limit::limit(RETROCESSION[0], 100, stressed, base, 0),
-        limit::limit(RETROCESSION[1], 100, stressed, base, 0),
-        limit::limit(RETROCESSION[2], 100, stressed, base, 0),
+        limit::unrounded(s.i, 100, vaf, base, 0),
+        limit::unrounded(s.i, 100, stressed, base, 0),
+        limit::unrounded(s.h, 100, vaf, base, 0),
+        limit::unrounded(s.h, 100, stressed, base, 0),
+        limit::unrounded(s.g, s.second, stressed, base, 0),
+        limit::unrounded(s.g, s.first, stressed, base, 0),
+        limit::unrounded(s.g, 100, stressed, base, 0),
+        limit::unrounded(s.e, s.second, stressed, base, 0),
+        limit::unrounded(s.e, s.first, stressed, base, 0),
+        limit::unrounded(s.e, 100, stressed, base, 0),
+        limit::unrounded(s.f, 100, vaf, base, 0),
+        limit::unrounded(s.c, 100, vaf, base, 0),
+        limit::unrounded(s.d, 100, vaf, base, w),
+        limit::unrounded(RETROCESSION[0], 100, stressed, base, 0),
+        limit::unrounded(RETROCESSION[1], 100, stressed, base, 0),
+        limit::unrounded(RETROCESSION[2], 100, stressed, base, 0),
     ]
+}
+
+// The same in cents.
+pub fn in_cents(unrounded: [u64; TIERS]) -> [u64; TIERS]
+    ensures { λ r. ⌜ r ≡ map (centsOf tenThousandths) unrounded ⌝ }
+{
+    let mut limits = [0u64; TIERS];
+    let mut t = 0;
+    while t < TIERS {
+        limits[t] = limit::cents(unrounded[t]);
+        t += 1;
+    }
+    limits
 }
 
 // The A3 limit of a fund; `stressed` is VAF′.

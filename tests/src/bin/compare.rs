@@ -3,7 +3,7 @@
 //! to the cost of the report's charge; and the answers to lists of questions, which each question
 //! must get when sent singly, and which must hold of the reports of books with so much more.
 //!
-//!     compare [--inputs N] [--seed S]            N inputs (80,000 unless said) under the seed S, a
+//!     compare [--inputs N] [--seed S]            N inputs (100,000 unless said) under the seed S, a
 //!                                                fifth as many of the converter, and a quarter
 //!                                                each of the bills and of the questions
 //!     compare --only I [--seed S] [--dump FILE]  input I alone; FILE gets its schedule and book
@@ -12,20 +12,23 @@
 //!     compare --asking I [--seed S] ..           the same of the questions' inputs
 //!     compare --against yardstick ..             with the static library that the build was given,
 //!                                                reports alone, and the questions' answers where
-//!                                                that library has them
+//!                                                that library has them; reports may differ as C-17
+//!                                                has them differ from those before it, in the order
+//!                                                of lines with the same limit, and are counted
 //!     compare --without-version V ..             leaving out books whose byte 4 is V
 //!     compare --without-schedule-version V ..    leaving out schedules whose byte 4 is V
 //!
 //! Ends with status 1 on the first difference, or where a refusal or a tier was not met at all,
-//! also under schedules of version 2 alone unless these are left out, no more than half of the bills
-//! were of excesses at several desks, or a sort of question or answer was not met.
+//! also under schedules of version 2 alone unless these are left out, no report had a higher tier
+//! number before a lower one of the same limit, no more than half of the bills were of excesses at
+//! several desks, or a sort of question or answer was not met.
 
 use std::process::ExitCode;
 use std::time::Instant;
 use weightrose_tests::compare::{
-    adds_up, as_singly, compare, compare_bills, compare_headroom, keeps, library, library_bills,
-    library_convert, library_headroom, may_be_bought, second, second_bills, second_convert,
-    second_headroom, Difference, Lent, Outcome, GUARD,
+    adds_up, as_singly, compare, compare_before, compare_bills, compare_headroom, in_tier_order,
+    keeps, library, library_bills, library_convert, library_headroom, may_be_bought, runs, second,
+    second_bills, second_convert, second_headroom, Difference, Lent, Outcome, GUARD,
 };
 use weightrose_tests::inputs::{Asking, Askings, Billing, Billings, Conversions, Input, Inputs};
 use weightrose_tests::raw::MOST;
@@ -113,7 +116,7 @@ fn other(name: &str) -> Result<Other, String> {
 
 fn options() -> Result<Options, String> {
     let mut options = Options {
-        inputs: 80_000,
+        inputs: 100_000,
         seed: 20_230_701,
         only: None,
         conversion: None,
@@ -180,6 +183,8 @@ struct Met {
     written: Count,
     refusals: [Count; REFUSALS],
     lines: [Count; TIERS],
+    /// Reports with a higher tier number before a lower one of the same limit (C-17).
+    near_ties: Count,
 }
 
 impl Met {
@@ -201,6 +206,9 @@ impl Met {
         if let Some(Answer::Written(length)) = Answer::unpacked(outcome.answer) {
             let lines = &outcome.area[GUARD + HEADER..GUARD + length];
             lines.chunks(LINE).for_each(|line| self.lines[usize::from(line[2])].add(input));
+            if !runs(lines).iter().all(|run| in_tier_order(run)) {
+                self.near_ties.add(input);
+            }
         }
     }
 
@@ -224,6 +232,8 @@ impl Met {
         for ((number, name), count) in (0..).zip(TIER_NAMES).zip(self.lines) {
             println!("tier {number:2}    {:9} {:9} lines  {name}", count.all, count.version_2);
         }
+        let Count { all, version_2 } = self.near_ties;
+        println!("near ties  {all:9} {version_2:9} reports not in tier order at one limit");
     }
 
     fn refusals_met(&self, refusals: &[usize]) -> bool {
@@ -231,7 +241,7 @@ impl Met {
     }
 
     fn lines_met(&self) -> bool {
-        self.lines.iter().all(|count| count.all > 0)
+        self.lines.iter().all(|count| count.all > 0) && self.near_ties.all > 0
     }
 
     /// C-15: the refusals under a schedule of version 2, and 4 under one of version 1.
@@ -244,7 +254,7 @@ impl Met {
     }
 
     fn lines_met_under_version_2(&self) -> bool {
-        self.lines.iter().all(|count| count.version_2 > 0)
+        self.lines.iter().all(|count| count.version_2 > 0) && self.near_ties.version_2 > 0
     }
 }
 
@@ -402,14 +412,22 @@ fn numbers(only: Option<usize>, count: usize) -> std::ops::Range<usize> {
 fn reports(options: &Options) -> Result<(), String> {
     let start = Instant::now();
     let inputs = Inputs::new(options.seed);
-    let other = options.against.subject;
+    let Other { name, subject: other, .. } = options.against;
     let mut met = Met::default();
+    let mut differing = 0;
     for number in numbers(options.only, options.inputs) {
         let input = inputs.get(number);
         if options.leaves_out(&input) {
             continue;
         }
-        let both = || compare(&library, &other, &input);
+        let both = || {
+            if name == SECOND.name {
+                return compare(&library, &other, &input);
+            }
+            let (outcome, other_order) = compare_before(&library, &other, &input)?;
+            differing += u64::from(other_order);
+            Ok(outcome)
+        };
         let outcome = compare_one(options, "--only", number, &input, both)?;
         met.count(&input, &outcome);
         met.count_lines(&input, &outcome);
@@ -417,19 +435,24 @@ fn reports(options: &Options) -> Result<(), String> {
     met.print("reports", OF_REPORT);
     met.print_lines();
     if options.only.is_none() && !(met.refusals_met(OF_REPORT) && met.lines_met()) {
-        return Err("a refusal or a tier was not met".to_string());
+        return Err("a refusal, a tier or a near tie was not met".to_string());
     }
     let without = options.only.is_some() || options.without_schedule_version == Some(2);
     if !without && !(met.refusals_met_under_both(OF_REPORT) && met.lines_met_under_version_2()) {
-        return Err("a refusal or a tier was not met under a version of schedules".to_string());
+        let what = "a refusal, a tier or a near tie was not met under a version of schedules";
+        return Err(what.to_string());
     }
     let compared = met.inputs.all;
     let which = match numbers(options.only, options.inputs).len() as u64 - compared {
         0 => format!("the first {} fixed", inputs.fixed()),
         left_out => format!("{left_out} left out"),
     };
+    let but = match differing {
+        0 => String::new(),
+        _ => format!(" but C-17's order of equal limits in {differing} reports"),
+    };
     let seconds = start.elapsed().as_secs_f64();
-    println!("compared on {compared} inputs, {which}: no difference, {seconds:.1} s");
+    println!("compared on {compared} inputs, {which}: no difference{but}, {seconds:.1} s");
     Ok(())
 }
 

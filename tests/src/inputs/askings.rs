@@ -4,7 +4,7 @@
 use super::billings::{bank, cash, concentrated, limits, of_reinsurers, turned_back};
 use super::extremes::{self, sixteen_tiers};
 use super::faults::{every_set, refusable, refuse_12_to_17, refused_1_to_12};
-use super::{books, combinations, made, of_any_family, rates, versions};
+use super::{books, combinations, made, of_any_family, rates, ties, versions};
 use super::{Input, Listed, Parents, Room, Shape};
 use crate::random::Random;
 use crate::raw::*;
@@ -49,6 +49,7 @@ impl Askings {
             every_combination(),
             schedule_versions(),
             reports_under_rates(),
+            near_ties(),
             sizes(),
             largest(),
         ];
@@ -616,6 +617,15 @@ fn reports_under_rates() -> Vec<Asking> {
     inputs
 }
 
+/// C-17: every fifth of the report's inputs, with a question for each of five tiers of the group,
+/// and one of bank bills.
+fn near_ties() -> Vec<Asking> {
+    let list = [ask(2, 11), ask(2, 6), ask(3, 10), ask(4, 5), ask(1, 4), ask(1, 3)];
+    let list = RawQuestion::list(&list);
+    let inputs = ties::all().into_iter().step_by(5);
+    inputs.map(|input| of_input(input, list.clone())).collect()
+}
+
 /// Books of several sizes, in few groups and in many, with as many questions as may be sent.
 fn sizes() -> Vec<Asking> {
     let sizes = [
@@ -655,8 +665,8 @@ fn largest() -> Vec<Asking> {
     inputs
 }
 
-/// A fund near its limits, a concentrated one, a book as the report gets it, or a fixed input of the
-/// report; with any list and any buffer.
+/// A fund near its limits, one with near ties, a concentrated one, a book as the report gets it, or a
+/// fixed input of the report; with any list and any buffer.
 fn seeded(random: &mut Random, reports: &[Input]) -> Asking {
     let input = match random.below(100) {
         0..=9 => reports[random.index(reports.len())].clone(),
@@ -672,6 +682,10 @@ fn seeded(random: &mut Random, reports: &[Input]) -> Asking {
         45..=49 => {
             let (schedule, book) = near_limits(random);
             made(random, schedule, book)
+        }
+        50..=59 => {
+            let (schedule, book) = ties::random(random);
+            Input::new("near ties", &schedule, &book)
         }
         _ => {
             let (schedule, book) = near_limits(random);

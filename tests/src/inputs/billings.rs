@@ -4,7 +4,7 @@
 use super::edges::sample;
 use super::extremes::{self, sixteen_tiers};
 use super::faults::{every_set, refusable, refuse_12_to_17, refused_1_to_12};
-use super::{books, combinations, made, of_any_family, rates, versions};
+use super::{books, combinations, made, of_any_family, rates, ties, versions};
 use super::{Input, Listed, Parents, Room, Shape};
 use crate::random::Random;
 use crate::raw::*;
@@ -42,6 +42,7 @@ impl Billings {
             single_rates(),
             a3_rates(),
             reports_under_rates(),
+            near_ties(),
             sizes(),
             largest(),
         ];
@@ -414,15 +415,25 @@ fn a3_rates() -> Vec<Billing> {
     inputs
 }
 
-/// C-15: every fifth of the report's inputs, at desks.
+/// C-15: every fifth of the report's inputs.
 fn reports_under_rates() -> Vec<Billing> {
-    let random = &mut Random::new(15, 0);
-    let mut inputs = Vec::new();
-    for mut input in rates::all().into_iter().step_by(5) {
+    every_few(15, rates::all(), 5)
+}
+
+/// C-17: every third of the report's inputs, with two assets in most tiers.
+fn near_ties() -> Vec<Billing> {
+    every_few(17, ties::all(), 3)
+}
+
+/// Inputs of the report, one of so many, at desks.
+fn every_few(seed: u64, inputs: Vec<Input>, step: usize) -> Vec<Billing> {
+    let random = &mut Random::new(seed, 0);
+    let mut billings = Vec::new();
+    for mut input in inputs.into_iter().step_by(step) {
         bytes_at_desks(random, &mut input.book);
-        inputs.push(in_room(&Billing { input, rate: 1_000 }, BILLS));
+        billings.push(in_room(&Billing { input, rate: 1_000 }, BILLS));
     }
-    inputs
+    billings
 }
 
 /// Books with as many records as tables of several sizes hold, and one more of each sort, in few
@@ -478,8 +489,8 @@ fn bytes_at_desks(random: &mut Random, book: &mut [u8]) {
     }
 }
 
-/// A concentrated fund, a book as the report gets it, or a fixed input of the report; with any rate
-/// and any buffer.
+/// A concentrated fund, one with near ties, a book as the report gets it, or a fixed input of the
+/// report; with any rate and any buffer.
 fn seeded(random: &mut Random, reports: &[Input]) -> Billing {
     let mut rate = random_rate(random);
     let mut input = match random.below(100) {
@@ -505,6 +516,11 @@ fn seeded(random: &mut Random, reports: &[Input]) -> Billing {
         38..=52 => {
             let (schedule, book) = concentrated(random);
             made(random, schedule, book)
+        }
+        53..=64 => {
+            let (schedule, mut book) = ties::random(random);
+            versions::at_desks(random, &mut book);
+            Input::new("near ties", &schedule, &book)
         }
         _ => {
             let (schedule, book) = concentrated(random);

@@ -1,8 +1,9 @@
 //! What library and second implementation are compared on: first every boundary, the largest books,
 //! every combination of a list, the limits of specialist funds, the versions of a book and those of
-//! a schedule (`edges`, `extremes`, `combinations`, `specialist`, `versions`, `rates`), then seeded
-//! books of any fund (`books`) and, every fifth each, of a specialist one (`specialist`) and under
-//! rates in ten-thousandths (`rates`), some of them with faults or damage (`faults`). The converter
+//! a schedule, and limits that are equal in cents alone (`edges`, `extremes`, `combinations`,
+//! `specialist`, `versions`, `rates`, `ties`), then seeded books of any fund (`books`) and, every
+//! sixth each, of a specialist one (`specialist`), under rates in ten-thousandths (`rates`) and with
+//! such limits (`ties`), some of them with faults or damage (`faults`). The converter
 //! has a list of its own (`conversions`), and so have the bills (`billings`) and the questions of
 //! dealers (`askings`). An input's number and the seed make it again.
 
@@ -16,6 +17,7 @@ mod extremes;
 mod faults;
 mod rates;
 mod specialist;
+mod ties;
 mod versions;
 
 pub use askings::{small_fund, Asking, Askings, KINDS};
@@ -24,6 +26,7 @@ pub use books::{lifelike, Parents, Shape};
 pub use conversions::Conversions;
 pub use edges::sample;
 pub use extremes::{largest_report_book, largest_specialist_book, sixteen_tiers};
+pub use ties::all as near_ties;
 pub use versions::at_desks;
 
 use crate::random::Random;
@@ -66,6 +69,7 @@ impl Inputs {
         fixed.extend(specialist::all());
         fixed.extend(versions::all());
         fixed.extend(rates::all());
+        fixed.extend(ties::all());
         Inputs { seed, fixed }
     }
 
@@ -125,16 +129,18 @@ impl<T: Clone> Listed<T> {
 type Family = fn(&mut Random) -> (RawSchedule, RawBook);
 
 fn family(number: usize) -> Family {
-    match number % 5 {
+    match number % 6 {
         3 => rates::random,
         4 => specialist::random,
+        5 => ties::random,
         _ => books::random,
     }
 }
 
 /// A book as the report gets it.
 fn of_any_family(random: &mut Random) -> (RawSchedule, RawBook) {
-    random.pick::<Family>(&[books::random, specialist::random, rates::random])(random)
+    let families = [books::random, specialist::random, rates::random, ties::random];
+    random.pick::<Family>(&families)(random)
 }
 
 fn seeded(random: &mut Random, family: Family) -> Input {

@@ -233,7 +233,7 @@ fn row_d(version: u16, first: u16, second: u16) -> RawSchedule {
 }
 
 /// The whole cents of a rate's product, as the version has the rate.
-fn product(version: u16, rate: u16, vaf: u64) -> u64 {
+pub fn product(version: u16, rate: u16, vaf: u64) -> u64 {
     let under = if version == 2 { 10_000 } else { 1_000 };
     (u128::from(rate) * u128::from(vaf) / under) as u64
 }

@@ -75,21 +75,22 @@ pub fn lines<R: Rules>(
     rules: &R,
     top: Place,
     shares: &BTreeMap<Tier, Share>,
-    limits: &BTreeMap<Tier, i128>,
+    limits: &BTreeMap<Tier, Limit>,
 ) -> Vec<Line> {
     let mut ranked: Vec<(&Tier, &Share)> =
         shares.iter().filter(|(_, share)| rules.has_line(share.exposure)).collect();
-    ranked.sort_by_key(|(tier, _)| rules.rank(**tier, limits[tier]));
+    ranked.sort_by_cached_key(|(tier, _)| rules.rank(**tier, &limits[tier]));
     let mut standing = 0;
     let mut lines = Vec::new();
     for (&tier, share) in ranked {
-        let limit = limits[&tier];
+        let limit = &limits[&tier];
         let left = rules.left(tier, limit, standing);
-        let excess = rules.excess(share.exposure, left);
+        let excess = rules.excess(share.exposure, limit, left);
         // "standing grows by the rest".
         standing += share.exposure - excess;
         let (exposure, a3_together) = (share.exposure, share.a3_together);
-        lines.push(Line { top, tier, exposure, limit, left, excess, a3_together });
+        lines.push(Line { top, tier, exposure, limit: limit.cents, left, excess, a3_together });
     }
+    rules.put_in_order(&mut lines, limits);
     lines
 }

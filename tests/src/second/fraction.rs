@@ -43,6 +43,21 @@ impl Fraction {
     pub fn floor(self) -> i128 {
         self.over.div_euclid(self.under)
     }
+
+    /// The least whole number that is not below this.
+    pub fn ceiling(self) -> i128 {
+        -(-self.over).div_euclid(self.under)
+    }
+
+    /// What rounding down leaves over, in the parts that this is of.
+    pub fn left_over(self) -> i128 {
+        self.over.rem_euclid(self.under)
+    }
+
+    /// As a program would have it that knows no fractions.
+    pub fn floating(self) -> f64 {
+        self.over as f64 / self.under as f64
+    }
 }
 
 impl Ord for Fraction {

@@ -145,13 +145,6 @@ fn downgraded_tier([full, first, second]: [Tier; 3], kept: Kept) -> Tier {
     }
 }
 
-/// What a row's rates are taken of, and the W of row d.
-struct Amounts {
-    vaf: i128,
-    base: i128,
-    w: i128,
-}
-
 /// The fund's limit in each tier, with `w` the W of row d.
 pub fn limits<R: Rules>(
     rules: &R,
@@ -159,13 +152,22 @@ pub fn limits<R: Rules>(
     base: i128,
     values: &Values,
     w: i128,
-) -> BTreeMap<Tier, i128> {
+) -> BTreeMap<Tier, Limit> {
     let limit = |tier: Tier| {
-        let vaf = if rules.uses_vaf_prime(tier) { values.vaf_prime } else { values.vaf };
-        let w = if rules.lessened_by_w(tier) { w } else { 0 };
-        let row = rules.row(tier, schedule);
-        let kept = rules.percent(tier, schedule);
-        (tier, row_limit(rules, schedule, Some(tier), &row, Amounts { vaf, base, w }, kept))
+        let basis = Basis {
+            version: schedule.version,
+            tier,
+            row: rules.row(tier, schedule),
+            fund_vaf: values.vaf,
+            vaf: if rules.uses_vaf_prime(tier) { values.vaf_prime } else { values.vaf },
+            base,
+            w: if rules.lessened_by_w(tier) { w } else { 0 },
+            kept: rules.percent(tier, schedule),
+        };
+        let Basis { version, row, vaf, w, kept, .. } = basis;
+        let products = products(rules, &row, vaf, base, w);
+        let cents = rules.limit(version, Some(tier), products, row.fixed, kept);
+        (tier, Limit { cents, unrounded: rules.unrounded(&basis, products) })
     };
     Tier::ALL.into_iter().map(limit).collect()
 }
@@ -174,18 +176,12 @@ pub fn limits<R: Rules>(
 pub fn a3_limit<R: Rules>(rules: &R, schedule: &Schedule, base: i128, values: &Values) -> i128 {
     let vaf = rules.a3_vaf(values.vaf, values.vaf_prime);
     let row = &schedule.rows[&RowName::Z];
-    row_limit(rules, schedule, None, row, Amounts { vaf, base, w: 0 }, Fraction::whole(1))
+    let products = products(rules, row, vaf, base, 0);
+    rules.limit(schedule.version, None, products, row.fixed, Fraction::whole(1))
 }
 
-fn row_limit<R: Rules>(
-    rules: &R,
-    schedule: &Schedule,
-    tier: Option<Tier>,
-    row: &Row,
-    amounts: Amounts,
-    kept: Fraction,
-) -> i128 {
-    let [first, second] = rules.vaf_products(row, amounts.vaf, amounts.w);
-    let products = [first, second, rules.base_product(row, amounts.base)];
-    rules.limit(schedule.version, tier, products, row.fixed, kept)
+/// A row's three products.
+fn products<R: Rules>(rules: &R, row: &Row, vaf: i128, base: i128, w: i128) -> [Fraction; 3] {
+    let [first, second] = rules.vaf_products(row, vaf, w);
+    [first, second, rules.base_product(row, base)]
 }

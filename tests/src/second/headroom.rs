@@ -133,7 +133,7 @@ impl<'a, R: Rules> Trial<'a, R> {
         self.rules.charge(self.of_others + excess, figures.a3_sum, figures.a3_limit)
     }
 
-    fn limits(&self, moved: Moved) -> Cow<'a, BTreeMap<Tier, i128>> {
+    fn limits(&self, moved: Moved) -> Cow<'a, BTreeMap<Tier, Limit>> {
         if moved == Moved::default() {
             return Cow::Borrowed(&self.accepted.limits);
         }
@@ -201,7 +201,7 @@ pub fn met_of(schedule: &[u8], book: &[u8], questions: &[u8]) -> Option<Vec<MetQ
                 own_room: MOST,
             };
         };
-        let rank = |tier: Tier| (asked.limits[&tier], tier);
+        let rank = |tier: Tier| Documents.rank(tier, &asked.limits[&tier]);
         let up_to = asked.lines.iter().filter(|line| rank(line.tier) <= rank(asked.tier));
         let standing: i128 = up_to.map(|line| line.exposure - line.excess).sum();
         MetQuestion {
@@ -209,7 +209,7 @@ pub fn met_of(schedule: &[u8], book: &[u8], questions: &[u8]) -> Option<Vec<MetQ
             of_child,
             has_line: asked.lines.iter().any(|line| line.tier == asked.tier),
             has_excess: asked.lines.iter().any(|line| line.excess > 0),
-            own_room: asked.limits[&asked.tier] - standing,
+            own_room: asked.limits[&asked.tier].cents - standing,
         }
     })
 }

@@ -1,4 +1,4 @@
-//! A second implementation of document 01, with document 02's requests C-11 and C-13 to C-16,
+//! A second implementation of document 01, with document 02's requests C-11 and C-13 to C-17,
 //! written from the documents and from nothing else.
 //!
 //! It reads bytes into records (`read`), takes values, exposures, tiers and limits from them
@@ -30,7 +30,7 @@ pub use slip::Slip;
 use crate::weightrose::{Answer, Refusal};
 use cascade::Sums;
 use fund::Values;
-use records::{Book, Line, Schedule, Tier};
+use records::{Book, Limit, Line, Schedule, Tier};
 use std::collections::BTreeMap;
 use write::Figures;
 
@@ -69,7 +69,7 @@ struct Accepted {
     book: Book,
     values: Values,
     sums: Sums,
-    limits: BTreeMap<Tier, i128>,
+    limits: BTreeMap<Tier, Limit>,
     /// Each group's lines by rank.
     groups: Vec<Vec<Line>>,
     figures: Figures,

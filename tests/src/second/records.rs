@@ -226,6 +226,29 @@ impl Tier {
     }
 }
 
+/// What a tier's limit is taken of.
+#[derive(Clone, Copy, Debug)]
+pub struct Basis {
+    /// The schedule's.
+    pub version: u16,
+    pub tier: Tier,
+    pub row: Row,
+    /// VAF, and what the tier uses of VAF and VAF′.
+    pub fund_vaf: i128,
+    pub vaf: i128,
+    pub base: i128,
+    /// W where it lessens the tier's limit, else 0.
+    pub w: i128,
+    pub kept: Fraction,
+}
+
+/// A tier's limit in cents, and before it is rounded down to them.
+#[derive(Clone, Copy, Debug)]
+pub struct Limit {
+    pub cents: i128,
+    pub unrounded: Fraction,
+}
+
 /// What is left of an ungraded reinsurer's limit after its downgrade (A2).
 #[derive(Clone, Copy, Debug, PartialEq, Eq)]
 pub enum Kept {
@@ -297,7 +320,7 @@ pub struct Asked<'a> {
     /// The group's lines, by rank.
     pub lines: &'a [Line],
     /// The fund's limits.
-    pub limits: &'a BTreeMap<Tier, i128>,
+    pub limits: &'a BTreeMap<Tier, Limit>,
     /// The charge.
     pub charge: i128,
 }

@@ -577,6 +577,13 @@ pub trait Rules {
         kept.of(greatest).floor()
     }
 
+    /// C-17: "the unrounded limit": "the greatest of .. and fixed amount, times the percent kept,
+    /// exact", and not "rounded down".
+    fn unrounded(&self, basis: &Basis, products: [Fraction; 3]) -> Fraction {
+        let fixed = Fraction::whole(basis.row.fixed);
+        basis.kept.of(products.into_iter().fold(fixed, Fraction::max))
+    }
+
     // Cascade (P23).
 
     /// "A group is everyone with the same topmost parent."
@@ -587,18 +594,20 @@ pub trait Rules {
         }
     }
 
-    /// "tiers rank by limit in cents, then number". C-11: 13 to 15 "rank .. like the rest".
-    fn rank(&self, tier: Tier, limit: i128) -> (i128, i128) {
-        (limit, i128::from(tier.number()))
+    /// C-17: "Tiers shall rank by the unrounded limit, and only truly equal ones by number." C-11:
+    /// 13 to 15 "rank .. like the rest". Ranks are compared from their first number on.
+    fn rank(&self, tier: Tier, limit: &Limit) -> Vec<Fraction> {
+        vec![limit.unrounded, Fraction::whole(i128::from(tier.number()))]
     }
 
-    /// "Each tier's left is limit − standing". C-11: 13 to 15 "cascade like the rest".
-    fn left(&self, _tier: Tier, limit: i128, standing: i128) -> i128 {
-        limit - standing
+    /// "Each tier's left is limit − standing". C-11: 13 to 15 "cascade like the rest". C-17: "limits
+    /// and cuts in cents as before".
+    fn left(&self, _tier: Tier, limit: &Limit, standing: i128) -> i128 {
+        limit.cents - standing
     }
 
-    /// "its excess is what of its exposure passes left".
-    fn excess(&self, exposure: i128, left: i128) -> i128 {
+    /// "its excess is what of its exposure passes left". C-17: "cuts in cents as before".
+    fn excess(&self, exposure: i128, _limit: &Limit, left: i128) -> i128 {
         (exposure - left).max(0)
     }
 
@@ -637,6 +646,9 @@ pub trait Rules {
     fn all_net(&self, linked: i128, others: i128) -> i128 {
         linked + others
     }
+
+    /// "tiers by rank": a group's lines stand as they were cut.
+    fn put_in_order(&self, _lines: &mut [Line], _limits: &BTreeMap<Tier, Limit>) {}
 
     /// "one for each tier of each group (so exposure above 0 only)".
     fn has_line(&self, exposure: i128) -> bool {

@@ -39,10 +39,44 @@ macro_rules! slips {
                 (self as usize) < slip as usize
             }
 
-            /// Whether it is of what no answer to a question hangs on: A3, which is held, and the
-            /// order of equal limits, under which the same is left.
-            pub fn of_no_answer(self) -> bool {
+            /// Whether it is of the order of tiers alone whose limits are equal in cents: under
+            /// any such order the same stands and the same is cut, in each run of them as a whole.
+            pub fn of_equal_limits(self) -> bool {
                 matches!(
+                    self,
+                    Slip::TiesByHigherNumber
+                        | Slip::RankedByCents
+                        | Slip::HigherUnroundedFirst
+                        | Slip::RankedWithoutThePercent
+                        | Slip::RankedWithoutW
+                        | Slip::RankedWithoutTheBase
+                        | Slip::RankedWithoutTheFixedAmount
+                        | Slip::RankedWithoutTheSecondRate
+                        | Slip::RankedOnVafAlone
+                        | Slip::RankedByThePercentOfCents
+                        | Slip::RowDRankedByCents
+                        | Slip::Tiers0To12RankedByCents
+                        | Slip::Tiers13To15RankedByCents
+                        | Slip::Version1RatesRankedInTenThousandths
+                        | Slip::Version2RatesRankedPerMille
+                        | Slip::RetrocessionRankedATenth
+                        | Slip::RetrocessionRankedTenTimes
+                        | Slip::RankedByWhatIsLeftOver
+                        | Slip::RankedInTenthsOfACent
+                        | Slip::RankedInHundredthsOfACent
+                        | Slip::RankedInThousandthsOfACent
+                        | Slip::RankedInTenThousandthsOfACent
+                        | Slip::RankedInHundredThousandthsOfACent
+                        | Slip::RankedInFloatingPoint
+                        | Slip::LinesByUnroundedCutByCents
+                        | Slip::LinesByCentsCutByUnrounded
+                )
+            }
+
+            /// Whether it is of what no answer to a question hangs on: A3, which is held, and the
+            /// order of equal limits.
+            pub fn of_no_answer(self) -> bool {
+                self.of_equal_limits() || matches!(
                     self,
                     Slip::A3Uncapped
                         | Slip::A3CountsKind4
@@ -55,7 +89,6 @@ macro_rules! slips {
                         | Slip::Version1A3RatesInTenThousandths
                         | Slip::Version2A3RatesPerMille
                         | Slip::ChargeWithoutA3
-                        | Slip::TiesByHigherNumber
                 )
             }
 
@@ -68,6 +101,7 @@ macro_rules! slips {
                         | Slip::LinkedNotUnlimited
                         | Slip::LinkedNotInAllNet
                         | Slip::LinesWithoutExposure
+                        | Slip::LinesByCentsCutByUnrounded
                         | Slip::TierSetWithoutLowest
                         | Slip::TierSetOf13Bits
                 )
@@ -232,6 +266,39 @@ slips! {
     ExposureCutWhole,
     RetrocessionRanksLast,
     RetrocessionNotCascaded,
+
+    // Ties before rounding.
+    /// Document 01's own ranking, which C-17 replaced.
+    RankedByCents,
+    HigherUnroundedFirst,
+    RankedByTheNearestCent,
+    RankedByCentsRoundedUp,
+    RankedWithoutThePercent,
+    RankedWithoutW,
+    RankedWithoutTheBase,
+    RankedWithoutTheFixedAmount,
+    RankedWithoutTheSecondRate,
+    RankedOnVafAlone,
+    RankedByThePercentOfCents,
+    RowDRankedByCents,
+    Tiers0To12RankedByCents,
+    Tiers13To15RankedByCents,
+    Version1RatesRankedInTenThousandths,
+    Version2RatesRankedPerMille,
+    RetrocessionRankedATenth,
+    RetrocessionRankedTenTimes,
+    RankedByWhatIsLeftOver,
+    RankedInTenthsOfACent,
+    RankedInHundredthsOfACent,
+    RankedInThousandthsOfACent,
+    RankedInTenThousandthsOfACent,
+    RankedInHundredThousandthsOfACent,
+    RankedInFloatingPoint,
+    RankedInSigned64Bits,
+    LinesByUnroundedCutByCents,
+    LinesByCentsCutByUnrounded,
+    CutAtLimitsRoundedUp,
+    CutOverUnroundedLimits,
 
     // A3.
     A3CountsKind4,
@@ -930,17 +997,18 @@ impl Rules for Slip {
         let right = Documents.greatest(asked, raises);
         // What is left at a line of the group, or at the tier that is asked about, where such lines
         // have so much counted.
-        let rank = |tier: Tier| (asked.limits[&tier], tier);
+        let rank = |tier: Tier| (asked.limits[&tier].unrounded, tier);
         let own = rank(asked.tier);
+        let limit = |at: (Fraction, Tier)| asked.limits[&at.1].cents;
         let stands = |line: &Line| line.exposure - line.excess;
         let sum = |counts: &dyn Fn(&Line) -> bool, amount: &dyn Fn(&Line) -> i128| {
             asked.lines.iter().filter(|line| counts(line)).map(amount).sum::<i128>()
         };
-        let up_to = |at: (i128, Tier), amount: &dyn Fn(&Line) -> i128| {
-            at.0 - sum(&|line| rank(line.tier) <= at, amount)
+        let up_to = |at, amount: &dyn Fn(&Line) -> i128| {
+            limit(at) - sum(&|line| rank(line.tier) <= at, amount)
         };
         let room = |at| up_to(at, &stands);
-        let left = |at: (i128, Tier)| at.0 - sum(&|line| rank(line.tier) < at, &stands);
+        let left = |at| limit(at) - sum(&|line| rank(line.tier) < at, &stands);
         let above = || asked.lines.iter().map(|line| rank(line.tier)).filter(move |&at| at > own);
         let below = || asked.lines.iter().map(|line| rank(line.tier)).filter(move |&at| at < own);
         let least = |rooms: &mut dyn Iterator<Item = i128>| rooms.min().unwrap_or(MOST);
@@ -958,14 +1026,14 @@ impl Rules for Slip {
                 with_own(&mut lines.filter(|at| at.1 > asked.tier).map(room))
             }
             Slip::EqualLimitsNotAsked => {
-                let lower = |line: &Line| line.limit < own.0 || line.tier == asked.tier;
-                let higher = above().filter(|at| at.0 > own.0);
-                least(&mut higher.map(room)).min(own.0 - sum(&lower, &stands))
+                let lower = |line: &Line| line.limit < limit(own) || line.tier == asked.tier;
+                let higher = above().filter(|&at| limit(at) > limit(own));
+                least(&mut higher.map(room)).min(limit(own) - sum(&lower, &stands))
             }
             Slip::StandingBeforeTheTier => least(&mut above().map(left)).min(left(own)),
             Slip::OwnExposureNotCounted => least(&mut above().map(room)).min(left(own)),
-            Slip::ReportsLeftAnswered => of_own().map_or(own.0, |line| line.left),
-            Slip::WholeGroupCounted => own.0 - sum(&|_| true, &stands),
+            Slip::ReportsLeftAnswered => of_own().map_or(limit(own), |line| line.left),
+            Slip::WholeGroupCounted => limit(own) - sum(&|_| true, &stands),
             Slip::ExposureForStanding => {
                 let room = |at| up_to(at, &|line| line.exposure);
                 least(&mut above().map(room)).min(room(own))
@@ -1314,7 +1382,7 @@ impl Rules for Slip {
             let full = Documents.limit(version, tier, products, fixed, Fraction::whole(1));
             kept.of(Fraction::whole(full)).floor()
         };
-        let rounded_up = || right + i128::from(Fraction::whole(right) < exact);
+        let rounded_up = || exact.ceiling();
         let retrocession = tier.is_some_and(Tier::is_retrocession);
         match self {
             Slip::RoundedBeforePercent => rounded_before_percent(),
@@ -1338,27 +1406,106 @@ impl Rules for Slip {
         }
     }
 
-    fn rank(&self, tier: Tier, limit: i128) -> (i128, i128) {
+    fn unrounded(&self, basis: &Basis, products: [Fraction; 3]) -> Fraction {
+        let right = Documents.unrounded(basis, products);
+        let [first, second, of_base] = products;
+        let none = Fraction::whole(0);
+        let with = |products| Documents.unrounded(basis, products);
+        let on = |vaf, w| {
+            let [first, second] = Documents.vaf_products(&basis.row, vaf, w);
+            with([first, second, of_base])
+        };
+        let unreduced = Basis { kept: Fraction::whole(1), ..*basis };
+        let in_parts = |parts: i128| Fraction::whole(Fraction::whole(parts).of(right).floor());
+        let tenth = Fraction::per_cent(10);
+        let rounded_down = Fraction::whole(right.floor());
+        let retrocession = basis.tier.is_retrocession();
+        match (self, basis.version) {
+            (Slip::HigherUnroundedFirst, _) => none.less(right),
+            (Slip::RankedByTheNearestCent, _) => Fraction::whole((in_parts(2).floor() + 1) / 2),
+            (Slip::RankedByCentsRoundedUp, _) => Fraction::whole(right.ceiling()),
+            (Slip::RankedWithoutThePercent, _) => Documents.unrounded(&unreduced, products),
+            (Slip::RankedWithoutW, _) => on(basis.vaf, 0),
+            (Slip::RankedWithoutTheBase, _) => with([first, second, none]),
+            (Slip::RankedWithoutTheFixedAmount, _) => {
+                let row = Row { fixed: 0, ..basis.row };
+                Documents.unrounded(&Basis { row, ..*basis }, products)
+            }
+            (Slip::RankedWithoutTheSecondRate, _) => with([first, none, of_base]),
+            (Slip::RankedOnVafAlone, _) => on(basis.fund_vaf, basis.w),
+            (Slip::RankedByThePercentOfCents, _) => {
+                let full = Documents.unrounded(&unreduced, products);
+                basis.kept.of(Fraction::whole(full.floor()))
+            }
+            (Slip::RowDRankedByCents, _) if basis.tier == Tier::D => rounded_down,
+            (Slip::Tiers0To12RankedByCents, _) if !retrocession => rounded_down,
+            (Slip::Tiers13To15RankedByCents, _) if retrocession => rounded_down,
+            (Slip::Version1RatesRankedInTenThousandths, 1) if !retrocession => {
+                with(products.map(|product| tenth.of(product)))
+            }
+            (Slip::Version2RatesRankedPerMille, 2) if !retrocession => {
+                with(products.map(|product| Fraction::whole(10).of(product)))
+            }
+            (Slip::RetrocessionRankedATenth, _) if retrocession => tenth.of(right),
+            (Slip::RetrocessionRankedTenTimes, _) if retrocession => Fraction::whole(10).of(right),
+            (Slip::RankedByWhatIsLeftOver, _) => Fraction::whole(right.left_over()),
+            (Slip::RankedInTenthsOfACent, _) => in_parts(10),
+            (Slip::RankedInHundredthsOfACent, _) => in_parts(100),
+            (Slip::RankedInThousandthsOfACent, _) => in_parts(1_000),
+            (Slip::RankedInTenThousandthsOfACent, _) => in_parts(10_000),
+            (Slip::RankedInHundredThousandthsOfACent, _) => in_parts(100_000),
+            // What is not below 0 is ordered as its bits are.
+            (Slip::RankedInFloatingPoint, _) => {
+                Fraction::whole(i128::from(right.floating().to_bits()))
+            }
+            (Slip::RankedInSigned64Bits, _) => {
+                let millionths = Fraction::whole(1_000_000).of(right).floor();
+                Fraction::whole(i128::from(millionths as i64))
+            }
+            _ => right,
+        }
+    }
+
+    fn rank(&self, tier: Tier, limit: &Limit) -> Vec<Fraction> {
+        let [cents, number] = [limit.cents, i128::from(tier.number())].map(Fraction::whole);
         match self {
-            Slip::FixedRanking => (i128::from(tier.number()), 0),
-            Slip::TiesByHigherNumber => (limit, -i128::from(tier.number())),
-            Slip::RetrocessionRanksLast if tier.is_retrocession() => (i128::MAX, limit),
+            Slip::FixedRanking => vec![number],
+            Slip::TiesByHigherNumber => vec![limit.unrounded, Fraction::whole(0).less(number)],
+            Slip::RetrocessionRanksLast if tier.is_retrocession() => {
+                vec![Fraction::whole(100 * MOST), limit.unrounded, number]
+            }
+            Slip::RankedByCents | Slip::LinesByUnroundedCutByCents => vec![cents, number],
+            slip if slip.of_equal_limits() => vec![cents, limit.unrounded, number],
             _ => Documents.rank(tier, limit),
         }
     }
 
-    fn left(&self, tier: Tier, limit: i128, standing: i128) -> i128 {
+    fn left(&self, tier: Tier, limit: &Limit, standing: i128) -> i128 {
         match self {
-            Slip::UnreducedLimits => limit,
-            Slip::RetrocessionNotCascaded if tier.is_retrocession() => limit,
+            Slip::UnreducedLimits => limit.cents,
+            Slip::RetrocessionNotCascaded if tier.is_retrocession() => limit.cents,
+            Slip::CutAtLimitsRoundedUp => limit.unrounded.ceiling() - standing,
             _ => Documents.left(tier, limit, standing),
         }
     }
 
-    fn excess(&self, exposure: i128, left: i128) -> i128 {
+    fn excess(&self, exposure: i128, limit: &Limit, left: i128) -> i128 {
         match self {
             Slip::ExposureCutWhole => exposure,
-            _ => Documents.excess(exposure, left),
+            Slip::CutOverUnroundedLimits => {
+                (exposure - left - (limit.unrounded.ceiling() - limit.cents)).max(0)
+            }
+            _ => Documents.excess(exposure, limit, left),
+        }
+    }
+
+    fn put_in_order(&self, lines: &mut [Line], limits: &BTreeMap<Tier, Limit>) {
+        match self {
+            Slip::LinesByUnroundedCutByCents => {
+                lines.sort_by_cached_key(|line| Documents.rank(line.tier, &limits[&line.tier]));
+            }
+            Slip::LinesByCentsCutByUnrounded => lines.sort_by_key(|line| (line.limit, line.tier)),
+            _ => Documents.put_in_order(lines, limits),
         }
     }
 

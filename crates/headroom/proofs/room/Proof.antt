@@ -5,8 +5,7 @@ use Prim.Native.Nat.{_+_, _-_, _≤_}
 use native.Mathlib.Omega.{arith}
 use denote.Ref.{now}
 use lib.ListN.{length, drop, getD, drop-of-length-le}
-use Rattle.cascade.specs.Cascade.{tiers, byTier, byLimit}
-use Rattle.cascade.proofs.Ranking.{byLimit-ordered}
+use Rattle.cascade.specs.Cascade.{tiers, byTier}
 use Rattle.headroom.specs.Headroom.{rowFrom}
 use Rattle.headroom.proofs.Closed.{no-limit}
 use Rattle.headroom.proofs.Going.{Going, going-start, going-next, going-tier, going-fits, going-step, going-end}
@@ -15,7 +14,7 @@ use Rattle.headroom.proofs.room.Statement.{statement}
 use Rattle.headroom.proofs.room.Tie as tie
 
 abbrev Inv-loop : tie.InvT-loop
-Inv-loop cells at tier most limits ranking standing₀ room₀ met₀ i₀ standing room met i = (i ≤ tiers) × Going limits (rowFrom cells at) tier most (drop i ranking) standing room met
+Inv-loop cells at tier most limits ranking standing₀ room₀ met₀ i₀ standing room met i = (i ≤ tiers) × Going limits ranking (rowFrom cells at) tier most (drop i ranking) standing room met
 
 abbrev μ-loop : tie.MeasureT-loop
 μ-loop cells at tier most limits ranking standing₀ room₀ met₀ i₀ standing room met i = tiers - i
@@ -25,16 +24,16 @@ here :
     (c : tie.In-loop Inv-loop μ-loop)
     → let a = c .before .before .before .before .args in
     let l = c .before .loop in
-    Going (a .t1) (rowFrom (now (a .cells)) (a .at)) (a .tier) (a .most) (getD (a .t4) (l .i) 0 ∷ drop (l .i + 1) (a .t4)) (l .standing) (l .room) (l .met)
+    Going (a .t1) (a .t4) (rowFrom (now (a .cells)) (a .at)) (a .tier) (a .most) (getD (a .t4) (l .i) 0 ∷ drop (l .i + 1) (a .t4)) (l .standing) (l .room) (l .met)
 here c =
     let n : length (c .before .before .before .before .args .t4) ≡ tiers = search needs in
     going-next (c .before .before .before .before .args .t4) (c .before .loop .i) (c .before .loop .inv .1) (omega arith)
 
 returns : tie.Need-returns Inv-loop μ-loop
-returns c =
+returns c q =
     let a = c .before .before .args in
     let L = byTier (a .t1) in
-    sym (no-limit tiers (byLimit L) L (byLimit-ordered L) (rowFrom (now (a .cells)) (a .at)) (a .tier) (a .most) (omega arith))
+    sym (no-limit tiers (q .order) L (q .ordered) (rowFrom (now (a .cells)) (a .at)) (a .tier) (a .most) (omega arith))
 
 loop-holds : tie.Need-loop-holds Inv-loop μ-loop
 loop-holds c = let p = c .before .before .pre in (omega arith, going-start (p .0) (p .2) (omega arith))

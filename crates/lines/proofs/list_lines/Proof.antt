@@ -85,7 +85,7 @@ returns c =
     let count : l .lines ≡ length (entriesOf cells (a .groups) (a .ranking)) = sym (none-counted (shown cells) (l .lines) none) ∙ l .inv .2 in
     let n = sets-long cells (a .groups) in
     record {
-      lines = λ limits heads places figures h. count ∙ entries-ones (a .ranking) (s .pre .ranks) cells (a .groups) ∙ sym (lines-ones h limits cells figures);
+      lines = λ order limits heads places figures h. count ∙ entries-ones (a .ranking) (s .pre .ranks) cells (a .groups) ∙ sym (lines-ones h order limits cells figures);
       count = count;
       few = omega (arith, l .inv .1);
       tierSets = put-end (l .inv .5) (omega (arith, s .pre .places)) (sets-end cells (a .groups) (l .k) (omega arith)) .1;

@@ -18,7 +18,7 @@ add-t15 c =
     record { fits = omega (arith, c .before .before .before .put-list .ensures .0, c .less .ensures, r .a3, excess-few (r .table)) }
 
 returns : tie.Need-returns
-returns c places groups h t =
+returns c order places groups h t =
     let s = c .before .before .before .before .before .before .before .before .before .before .before .before .before .before in
     let p = c .before .before .before .before .before .before .before .put-list in
     let o = c .before .before .before .before .less in

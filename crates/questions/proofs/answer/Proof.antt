@@ -28,8 +28,8 @@ room-requires c κs =
 
 returns : tie.Need-returns
 unfolding answerAt
-returns c =
-    rw (← tier-is (c .before .before .before)) (c .room .ensures)
+returns c q =
+    rw (← tier-is (c .before .before .before)) (c .room .ensures q)
 
 pub answer-spec : {M : Type 1} → statement M
 answer-spec =

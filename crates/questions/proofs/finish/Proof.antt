@@ -11,7 +11,7 @@ use Rattle.book.specs.HeaderLaws.{header-counts}
 use Rattle.fund.proofs.Limits.{taken}
 use Rattle.questions.specs.Questions.{placeAt, kindAt, goodList}
 use Rattle.questions.proofs.Listed.{in-range, listed}
-use Rattle.questions.proofs.Answering.{answerable}
+use Rattle.questions.proofs.Answering.{ranked-by, answerable}
 use Rattle.questions.proofs.Chain.{bad-list, short}
 use Rattle.questions.proofs.Written.{answers-are, asked-for}
 use borrow.Author.Needs.{needs}
@@ -66,7 +66,7 @@ returns-3 c =
     let b = now (s .args .book) in
     let q = now (s .args .questions) in
     let e = list-good (c .before .before .before .before .before) in
-    let put = c .before .before .put-answers .ensures ∙ ap (placed (now (s .args .answers)) 0) (answers-are schedule b q (taken (p .0)) (p .2) (p .3) (p .4) (p .5) (listed (C b) q e)) in
+    let put = c .before .before .put-answers .ensures (ranked-by (p .3)) ∙ ap (placed (now (s .args .answers)) 0) (answers-are schedule b q (taken (p .0)) (p .2) (p .3) (p .4) (p .5) (listed (C b) q e)) in
     asked-for schedule b q (p .0) (p .1) e (c .before .before .before .before .if2 .left) put
 
 pub finish-spec : {M : Type 1} → statement M

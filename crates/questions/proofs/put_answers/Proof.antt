@@ -10,6 +10,7 @@ use borrow.Author.Needs.{needs}
 use Rattle.wire.specs.Bytes.{placed}
 use Rattle.wire.specs.Amounts.{amountsBytes}
 use Rattle.wire.proofs.Amounts.{amounts-none, amounts-placed}
+use Rattle.headroom.specs.Headroom.{RankedBy}
 use Rattle.questions.specs.Questions.{placeAt, kindAt}
 use Rattle.questions.specs.Tables.{answerAt, answersAt}
 use Rattle.questions.proofs.Written.{counted-long, counted-at}
@@ -18,7 +19,7 @@ use Rattle.questions.proofs.put_answers.Tie as tie
 
 abbrev Inv-loop : tie.InvT-loop
 Inv-loop questions n limits ranking words rows cells answers₀ tiers k₀ answers k =
-    (k ≤ n) × (length answers ≡ length answers₀) × (answers ≡ placed answers₀ 0 (amountsBytes (take k (answersAt limits words rows cells questions n))))
+    (k ≤ n) × (length answers ≡ length answers₀) × ((q : RankedBy limits ranking) → answers ≡ placed answers₀ 0 (amountsBytes (take k (answersAt (q .order) limits words rows cells questions n))))
 
 abbrev μ-loop : tie.MeasureT-loop
 μ-loop questions n limits ranking words rows cells answers₀ tiers k₀ answers k = n - k
@@ -29,8 +30,7 @@ tiers-requires c κs = search needs
 loop-holds : tie.Need-loop-holds Inv-loop μ-loop
 loop-holds c =
     let a = c .before .before .before .before .before .before .args in
-    let xs = answersAt (a .limits) (now (a .words)) (now (a .rows)) (now (a .cells)) (now (a .questions)) (a .n) in
-    (omega arith, refl, amounts-none (now (a .answers)) xs 0 (omega arith))
+    (omega arith, refl, λ q. amounts-none (now (a .answers)) (answersAt (q .order) (a .limits) (now (a .words)) (now (a .rows)) (now (a .cells)) (now (a .questions)) (a .n)) 0 (omega arith))
 
 mul-u16-at : tie.Need-mul-u16-at Inv-loop μ-loop
 mul-u16-at c = record { fits = omega arith }
@@ -72,27 +72,28 @@ loop-again c =
     let s = c .before .before .before .before .before .before .before .before .before .before .before .before .before .before .before .before in
     let a = s .args in
     let l = c .before .before .before .before .before .before .before .before .before .loop in
-    let f : ℕ → ℕ = λ k. answerAt (a .limits) (now (a .words)) (now (a .rows)) (now (a .cells)) (placeAt (now (a .questions)) k) (kindAt (now (a .questions)) k) in
-    let xs = answersAt (a .limits) (now (a .words)) (now (a .rows)) (now (a .cells)) (now (a .questions)) (a .n) in
-    let long = counted-long f (a .n) in
-    let e : c .before .before .before .before .answer .result ≡ getD xs (l .k) 0 =
-    rw (c .before .before .before .before .before .before .before .u16-at .ensures) at (c .before .before .before .before .answer .ensures) ∙ sym (counted-at f (a .n) (l .k) (omega arith)) in
     let p : 0 + 8 * l .k ≡ 8 * l .k = omega arith in (
       omega arith,
       search needs,
-      amounts-placed (now (a .answers)) xs 0 {i = l .k} (omega (arith, long)) (omega (arith, long)) (l .inv .2) (rw (e, ← p) at (c .before .before .put-u64 .ensures)),
+      λ q.
+          let f : ℕ → ℕ = λ k. answerAt (q .order) (a .limits) (now (a .words)) (now (a .rows)) (now (a .cells)) (placeAt (now (a .questions)) k) (kindAt (now (a .questions)) k) in
+          let xs = answersAt (q .order) (a .limits) (now (a .words)) (now (a .rows)) (now (a .cells)) (now (a .questions)) (a .n) in
+          let long = counted-long f (a .n) in
+          let e : c .before .before .before .before .answer .result ≡ getD xs (l .k) 0 =
+          rw (c .before .before .before .before .before .before .before .u16-at .ensures) at (c .before .before .before .before .answer .ensures q) ∙ sym (counted-at f (a .n) (l .k) (omega arith)) in
+          amounts-placed (now (a .answers)) xs 0 {i = l .k} (omega (arith, long)) (omega (arith, long)) (l .inv .2 q) (rw (e, ← p) at (c .before .before .put-u64 .ensures)),
     )
 
 same-length : tie.Need-same-length Inv-loop μ-loop
 same-length c = c .before .loop .inv .1
 
 returns : tie.Need-returns Inv-loop μ-loop
-returns c =
+returns c q =
     let a = c .before .before .before .before .before .before .before .before .args in
     let l = c .before .loop in
-    let f : ℕ → ℕ = λ k. answerAt (a .limits) (now (a .words)) (now (a .rows)) (now (a .cells)) (placeAt (now (a .questions)) k) (kindAt (now (a .questions)) k) in
-    let xs = answersAt (a .limits) (now (a .words)) (now (a .rows)) (now (a .cells)) (now (a .questions)) (a .n) in
-    l .inv .2 ∙ ap (λ (ys : List ℕ). placed (now (a .answers)) 0 (amountsBytes ys)) (take-all (l .k) xs (omega (arith, counted-long f (a .n))))
+    let f : ℕ → ℕ = λ k. answerAt (q .order) (a .limits) (now (a .words)) (now (a .rows)) (now (a .cells)) (placeAt (now (a .questions)) k) (kindAt (now (a .questions)) k) in
+    let xs = answersAt (q .order) (a .limits) (now (a .words)) (now (a .rows)) (now (a .cells)) (now (a .questions)) (a .n) in
+    l .inv .2 q ∙ ap (λ (ys : List ℕ). placed (now (a .answers)) 0 (amountsBytes ys)) (take-all (l .k) xs (omega (arith, counted-long f (a .n))))
 
 pub put-answers-spec : {M : Type 1} → statement M
 put-answers-spec =
