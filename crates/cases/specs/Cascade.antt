@@ -49,7 +49,7 @@ counted =
 
 unfoldable table : List Case
 table =
-    -- "tiers rank by limit in cents, then number; an equal limit counts as lower"; C-11: "They rank and cascade like the rest, and A3 doesn't count them"
+    -- C-17: "Tiers shall rank by the unrounded limit, and only truly equal ones by number"; "an equal limit counts as lower"; C-11: "They rank and cascade like the rest, and A3 doesn't count them"
     case sixteen (λ r. printed r ++ tierSets r ++ charges r)
     (line 1 0 100000000 250000000 250000000 0
     ++ line 1 1 100000000 250000000 150000000 0

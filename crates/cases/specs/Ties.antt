@@ -11,7 +11,7 @@ use Rattle.schedule.specs.declared.Schedule.{Schedule}
 use Rattle.schedule.specs.Schedule.{scheduleOf, scheduleBytes}
 use Rattle.schedule.specs.Tiers.{rateAlone, unroundedLimits}
 use Rattle.book.specs.Book.{Book, bookOf}
-use Rattle.book.specs.Build.{counterparty, bookBytes, specialistBytes}
+use Rattle.book.specs.Build.{counterparty, asset, bookBytes, specialistBytes}
 use Rattle.exposure.specs.Values.{VAF, VAF′}
 use Rattle.exposure.specs.Sums.{W}
 use Rattle.cascade.specs.Cascade.{byTier, byLimit}
@@ -19,7 +19,7 @@ use Rattle.figures.specs.Report.{report}
 use Rattle.figures.specs.Read.{chargeIn}
 use Rattle.figures.proofs.Orders.{inOrder}
 use Rattle.fund.specs.Figures.{unroundedOf, fundOf}
-use Rattle.fund.specs.OrderLaws.{centsOrder}
+use Rattle.fund.proofs.Cents.{centsOrder}
 use Rattle.report.specs.Answer.{reportOf, answerOf}
 use Rattle.cases.specs.Build.{plain, reinsured, entered, usual, name, bank}
 use Rattle.cases.specs.Reading.{printed, line}
@@ -31,7 +31,7 @@ use Rattle.cases.specs.Opened.{reportComputed}
 abbrev Reading : Type 0
 Reading = Schedule → Book → ℕ → ℕ → Bool
 
--- document 01's: "tiers rank by limit in cents, then number"
+-- as before C-17: "tiers rank by limit in cents, then number"
 abbrev byCents : Reading
 byCents S B = centsOrder S B
 
@@ -70,12 +70,15 @@ reportBy c =
 abbrev told : List ℕ → List ℕ
 told r = chargeIn r ∷ printed r
 
--- charge and lines are as they should be, and others under the other reading
+-- charge and lines are as they should be, under the ranking and under the other reading
 unfoldable right : Tie → Bool
 right c =
     let r = reportOf (c .schedule) (c .book) in
-    accepted (answerOf (c .schedule) (c .book) 65536) (length r)
-    && same (told r) (c .due) && same (told (reportBy c)) (c .misread) && not (same (c .due) (c .misread))
+    accepted (answerOf (c .schedule) (c .book) 65536) (length r) && same (told r) (c .due) && same (told (reportBy c)) (c .misread)
+
+-- and differ
+abbrev caught : Tie → Bool
+caught c = right c && not (same (c .due) (c .misread))
 
 abbrev tie : List ℕ → List ℕ → List ℕ → Reading → List ℕ → Tie
 tie schedule book due reading misread = record { schedule = schedule; book = book; due = due; reading = reading; misread = misread }
@@ -102,6 +105,10 @@ pair total excluded assets = bookBytes total 0 excluded (name ∷ counterparty 1
 abbrev two : ℕ → ℕ → ℕ → ℕ → List ℕ
 two total excluded x y = pair total excluded (plain 11 1 x ∷ reinsured 1 0 y ∷ [])
 
+-- the same with one each and VAF′ one above VAF: reinsurance of no value now, and one under stress
+abbrev above : ℕ → List ℕ
+above total = pair total 0 (plain 11 1 1 ∷ asset 9 0 0 0 1 0 0 0 0 0 1 ∷ [])
+
 -- tiers 0, 1 and 2
 abbrev three : ℕ → ℕ → ℕ → List (List ℕ)
 three x y z = plain 11 1 x ∷ reinsured 1 0 y ∷ plain 6 1 z ∷ []
@@ -117,7 +124,7 @@ deposits bills amount = bookBytes 1005 0 0 (bank ∷ []) (plain 3 1 bills ∷ pl
 abbrev banked : List ℕ
 banked = perMille (rates 100 200 250 250 125 50 25 125)
 
--- beside document 01's ranking; the charge is the same
+-- beside the ranking before C-17; the charge is the same
 unfoldable ties : List Tie
 ties =
     -- "With VAF 41, VAF′ 40 and base 0, tier 1 comes before tier 0": 1.025 and 1.000
@@ -144,7 +151,7 @@ ties =
     byCents (7 ∷ line 1 9 20 33 33 0 ++ line 1 14 20 33 13 7)
     ∷ []
 
--- other readings than document 01's. The charge may differ where limits in cents fall along them
+-- beside other readings. The charge may differ where limits in cents fall along them
 unfoldable others : List Tie
 others =
     -- "only truly equal ones by number": at VAF and VAF′ 40 both are 1.000
@@ -161,6 +168,15 @@ others =
     ∷ tie banked (deposits 101 50) (51 ∷ line 1 12 50 100 100 0 ++ line 1 11 101 100 50 51) withoutW (51 ∷ line 1 11 101 100 100 1 ++ line 1 12 50 100 0 50)
     ∷ []
 
-holds : T (every right ties && every right others)
-unfolding reportComputed right ties others
+-- the same by limits in cents: VAF′ above VAF; and where the cents part, 2.000 and 1.975, 1.975 and 2.000
+unfoldable alike : List Tie
+alike =
+    let agreed : List ℕ → List ℕ → Tie = λ book due. tie publishedBytes book due byCents due in
+    agreed (above 40) (1 ∷ line 1 0 1 1 1 0 ++ line 1 1 1 1 0 1)
+    ∷ agreed (two 80 1 1 1) (0 ∷ line 1 1 1 1 1 0 ++ line 1 0 1 2 1 0)
+    ∷ agreed (above 79) (0 ∷ line 1 0 1 1 1 0 ++ line 1 1 1 2 1 0)
+    ∷ []
+
+holds : T (every caught ties && every caught others && every right alike)
+unfolding reportComputed right ties others alike
 holds = tt

@@ -1,3 +1,4 @@
 pub mod Limits
 pub mod Drawing
 pub mod Tables
+pub mod Cents
