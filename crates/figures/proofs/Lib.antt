@@ -4,4 +4,5 @@ pub mod Written
 pub mod Size
 pub mod Least
 pub mod Cases
+pub mod Shown
 pub mod Orders
