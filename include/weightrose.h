@@ -173,6 +173,33 @@ extern "C" {
  */
 
 /*
+ * What mitigants cover (paragraphs 31 to 43). Those of a linked asset are not read. Those of any
+ * other asset that are recognised cover it in their order, each the lesser of its value and of what
+ * may still be covered; one that is not recognised covers nothing. A covered part becomes an
+ * exposure to the mitigant's counterparty, the remainder stays one to the asset's own, and together
+ * they are the asset's net. Recognised are cash, government securities and debt that are in the
+ * same currency and secured and held or, for reinsurance, secured and held or on the terms of
+ * paragraph 35 or 36, debt only of a counterparty with grade 1, 2 or 3; guarantees of a
+ * counterparty that is not related and has such a grade, on the terms of paragraph 40 or, for
+ * reinsurance, of such a bank on the terms of paragraph 42(b) to (m); and letters of credit for
+ * reinsurance alone, as its guarantees.
+ *
+ * An asset may be covered up to its net. Reinsurance with a counterparty that is neither a
+ * registered life company nor an approved affiliate may be covered no further than that
+ * counterparty's half goes: the nets of all its reinsurance that is not linked, with mitigants or
+ * without, of whatever entry class, added up, divided by two and rounded down to a cent once. A
+ * half is one counterparty's, and no other of its group adds to it or draws on it. Its treaties
+ * draw on it in book order. Each may be covered up to the lesser of its own net and of what those
+ * before it have left of the half, and what its mitigants cover in all, not what they are worth, is
+ * taken off the half. So a treaty may be covered for more than half of its own net, or whole, and
+ * one behind it for nothing; one without recognised mitigants draws nothing. Linked reinsurance and
+ * assets of other kinds neither add to a half nor draw on it. A treaty that is alone is covered up
+ * to half of its net. Two of 101 and 99 with good letters of 101 on the first alone are covered for
+ * 100, with the letters on the second alone for 99, and two of 101 with letters of 101 on each for
+ * 101 and 0.
+ */
+
+/*
  * Specialist funds (paragraph 46). Byte 12 of a book states that its fund is a specialist
  * reinsurer's, and entry class 3 that an asset is the fund's retrocession to an overseas parent,
  * associated or subsidiary company that, with APRA's agreement, has been identified as an
@@ -349,8 +376,8 @@ weightrose_convert(const uint8_t *book, size_t book_len,
  * multiplied by the rate, divided by 10,000 and rounded down to a cent; the bill is that figure
  * less the same figure before that desk. The 256 bills so add up to the charge times the rate,
  * divided by 10,000 and rounded down, to the cent. Each is the cost of the desk's own excess,
- * rounded down or up, and 0 where there is no excess. Bills follow the order of the assets in the
- * book, as no report does.
+ * rounded down or up, and 0 where there is no excess. Bills follow the order of all assets in the
+ * book; a report follows it only among treaties that draw on one half.
  */
 uint64_t
 weightrose_bills(const uint8_t *schedule, size_t schedule_len,

@@ -5,7 +5,7 @@
 # put before it while packaging.
 
 WEIGHTROSE_LIB ?= target/staticlib/libweightrose.a
-WEIGHTROSE_VERSION ?= 0.8.0
+WEIGHTROSE_VERSION ?= 0.9.0
 PREFIX ?= /usr/local
 DESTDIR ?=
 

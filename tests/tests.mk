@@ -7,12 +7,10 @@
 #     tests-c         the C ledger: as C99, as C++, under valgrind and the sanitizers
 #     tests-install   the C ledger against an installed library
 #     compare-long    the comparison on a million inputs (LONG_INPUTS, SEED)
-#     compare-before  the library against another build of it, BEFORE_LIB=.., in place of the second
-#                     implementation: every answer and every byte lent of the reports and, where
-#                     that build has weightrose_headroom, of the questions; reports that differ in
-#                     what C-17 changed alone are counted; where that build does not know version 2
-#                     of a schedule, BEFORE_FLAGS='--without-schedule-version 2', and where it does
-#                     not know version 2 of a book either, '--without-version 2' besides
+#     compare-before  the library against another build of it that has C-17, BEFORE_LIB=.., in place
+#                     of the second implementation: every answer and every byte lent of the reports,
+#                     the bills and the questions; those that differ in what C-18 changed alone are
+#                     counted; BEFORE_FLAGS, such as '--without-version 2', are handed on
 #     bench           times of the library and of the second implementation; with YARDSTICK_LIB=..,
 #                     a static library that has peer_report, of that one too
 #

@@ -7,9 +7,9 @@
  * document 02's specialist funds (C-11), converts its book to version 2 and books its assets by
  * desk (C-13), bills the desks for the capital that their excesses tie up (C-14), moves its
  * schedule to rates in ten-thousandths (C-15), asks how much more its dealers may buy (C-16), looks
- * at lines whose limits are equal in cents alone (C-17), and ends with status 1 where anything
- * differs. Each block is as long as its bytes, so that a memory checker sees any byte read or
- * written past its end.
+ * at lines whose limits are equal in cents alone (C-17), covers treaties with one reinsurer (C-18),
+ * and ends with status 1 where anything differs. Each block is as long as its bytes, so that a
+ * memory checker sees any byte read or written past its end.
  */
 #include "weightrose.h"
 
@@ -20,7 +20,7 @@
 
 /* ---- The ledger's own records ---- */
 
-enum { NO_PARENT = 0, BANK = 1, HOME_GOVERNMENT = 2, UNGRADED = 0 };
+enum { NO_PARENT = 0, BANK = 1, HOME_GOVERNMENT = 2, REGISTERED = 4, UNGRADED = 0 };
 enum {
 	GOVERNMENT_GUARANTEED = 1,
 	BANK_BILL = 3,
@@ -30,8 +30,9 @@ enum {
 	REINSURANCE = 9,
 	ANY_OTHER = 11
 };
-enum { NO_ENTRY = 0, RETROCESSION = 3 };
-enum { CASH = 1 };
+enum { NO_ENTRY = 0, ITEM_E = 1, RETROCESSION = 3 };
+enum { CASH = 1, LETTER = 5 };
+enum { TERMS_OF_42 = 1 << 3 };
 
 struct counterparty {
 	uint16_t parent;
@@ -1286,15 +1287,19 @@ dealers_in_other_buffers(void)
 
 /* ---- Ties before rounding ---- */
 
+/* Expects a report of these lines and no other. */
 static void
-expect_two_lines(const char *name, const struct ledger *ledger, const struct line *lines)
+expect_lines(const char *name, const struct ledger *ledger, const struct line *lines,
+	     unsigned count, uint64_t charge)
 {
 	struct block report = new_report(name, ledger);
+	unsigned made = weightrose_u16(report.bytes + WEIGHTROSE_HEADER_LINES);
+	unsigned i;
 
-	expect(weightrose_u16(report.bytes + WEIGHTROSE_HEADER_LINES) == 2, name);
-	expect_line(name, weightrose_line(report.bytes, 0), &lines[0]);
-	expect_line(name, weightrose_line(report.bytes, 1), &lines[1]);
-	expect(weightrose_u64(report.bytes + WEIGHTROSE_HEADER_CHARGE) == 4, name);
+	expect(made == count, name);
+	for (i = 0; i < count && i < made; i++)
+		expect_line(name, weightrose_line(report.bytes, i), &lines[i]);
+	expect(weightrose_u64(report.bytes + WEIGHTROSE_HEADER_CHARGE) == charge, name);
 	free(report.bytes);
 }
 
@@ -1325,9 +1330,68 @@ near_tie(void)
 	ledger.total_assets = 41;
 	ledger.capital_base = 0;
 	ledger.excluded_assets = 4;
-	expect_two_lines("C-17", &ledger, by_fraction);
+	expect_lines("C-17", &ledger, by_fraction, COUNT(by_fraction), 4);
 	ledger.excluded_assets = 3;
-	expect_two_lines("C-17, equal before rounding", &ledger, by_number);
+	expect_lines("C-17, equal before rounding", &ledger, by_number, COUNT(by_number), 4);
+}
+
+/* ---- Treaties with one reinsurer ---- */
+
+/* The cents that the published schedule gives the tiers here. */
+#define I_LIMIT UINT64_C(250000000)
+#define E_LIMIT UINT64_C(2500000000)
+#define C_LIMIT UINT64_C(2500000000)
+
+/*
+ * Two treaties of 101 and 99 cents with one reinsurer, of entry classes of their own, so that each
+ * remainder has a line, and letters of credit of a bank, 101 cents each. Half of 200 may be covered:
+ * of the first treaty 100, of the second its 99, and where both have a letter the first draws all.
+ * Of a registered reinsurer either may be covered whole.
+ */
+static void
+half_of_a_reinsurer(void)
+{
+	enum {
+		I = 1 << WEIGHTROSE_TIER_I_REINSURANCE,
+		E = 1 << WEIGHTROSE_TIER_E,
+		C = 1 << WEIGHTROSE_TIER_C
+	};
+	static const struct mitigant letters[] = {
+		{ LETTER, TERMS_OF_42, 2, 101 }, { LETTER, TERMS_OF_42, 2, 101 },
+	};
+	static const struct line on_first[] = {
+		{ 1, WEIGHTROSE_TIER_I_REINSURANCE, I | E, { 1, I_LIMIT, I_LIMIT, 0 } },
+		{ 1, WEIGHTROSE_TIER_E, I | E, { 99, E_LIMIT, E_LIMIT - 1, 0 } },
+		{ 2, WEIGHTROSE_TIER_C, C, { 100, C_LIMIT, C_LIMIT, 0 } },
+	};
+	static const struct line on_second[] = {
+		{ 1, WEIGHTROSE_TIER_I_REINSURANCE, I, { 101, I_LIMIT, I_LIMIT, 0 } },
+		{ 2, WEIGHTROSE_TIER_C, C, { 99, C_LIMIT, C_LIMIT, 0 } },
+	};
+	static const struct line on_registered[] = {
+		{ 2, WEIGHTROSE_TIER_C, C, { 200, C_LIMIT, C_LIMIT, 0 } },
+	};
+	struct counterparty names[] = {
+		{ NO_PARENT, 0, UNGRADED, 0 },
+		{ NO_PARENT, BANK, 1, 0 },
+	};
+	struct asset treaties[] = {
+		{ REINSURANCE, 1, 101, 101, 1, NO_ENTRY, 0 },
+		{ REINSURANCE, 1, 99, 99, 0, ITEM_E, 0 },
+	};
+	struct ledger ledger = ledger_of(names, COUNT(names), treaties, COUNT(treaties));
+
+	ledger.mitigants = letters;
+	ledger.mitigant_count = 1;
+	expect_lines("C-18, a letter on the first", &ledger, on_first, COUNT(on_first), 0);
+	treaties[0].mitigants = 0;
+	treaties[1].mitigants = 1;
+	expect_lines("C-18, a letter on the second", &ledger, on_second, COUNT(on_second), 0);
+	treaties[0].mitigants = 1;
+	ledger.mitigant_count = 2;
+	expect_lines("C-18, a letter on each", &ledger, on_first, COUNT(on_first), 0);
+	names[0].kind = REGISTERED;
+	expect_lines("C-18, a registered reinsurer", &ledger, on_registered, COUNT(on_registered), 0);
 }
 
 static void
@@ -1364,6 +1428,7 @@ main(void)
 	dealers_refused();
 	dealers_in_other_buffers();
 	near_tie();
+	half_of_a_reinsurer();
 	published_into_too_little();
 	printf("ledger: %d failures\n", failures);
 	return failures ? EXIT_FAILURE : EXIT_SUCCESS;

@@ -5,8 +5,8 @@
 use crate::inputs::{Asking, Billing, Input, Room};
 use crate::random::Random;
 use crate::raw::{RawAsset, RawQuestion, MOST};
-use crate::second;
-use crate::weightrose::{self, Answer, ANSWER, HEADER, LARGEST_REPORT, LINE, QUESTION};
+use crate::second::{self, Slip};
+use crate::weightrose::{self, Answer, ANSWER, LARGEST_REPORT, LINE, QUESTION};
 
 /// Guard bytes on each side of a lent buffer.
 pub const GUARD: usize = 64;
@@ -105,18 +105,32 @@ pub fn compare(one: Subject, other: Subject, input: &Input) -> Result<Outcome, D
     }
 }
 
-/// The same with a subject from before C-17: what the first left, and whether the other left the
-/// same but for C-17.
+/// The same with a subject from before C-18: what the first left, and whether the other left
+/// something else, as C-18 has it.
 pub fn compare_before(
+    one: Subject,
+    before: Subject,
+    input: &Input,
+) -> Result<(Outcome, bool), Difference> {
+    compare_before_by(&second_before, one, before, input)
+}
+
+/// The same of any entry, where `old` is what there was before C-18: `before` may leave something
+/// else only where treaties share a half, and then it must leave what `old` does.
+pub fn compare_before_by(
+    old: Subject,
     one: Subject,
     before: Subject,
     input: &Input,
 ) -> Result<(Outcome, bool), Difference> {
     let room = room(input);
     let [one, before] = [one, before].map(|subject| outcome(subject, input, room));
-    let other_order = other_order(&one, &before);
-    if one == before || other_order {
-        Ok((one, other_order))
+    if one == before {
+        return Ok((one, false));
+    }
+    let met = second::halves_of(&input.schedule, &input.book).unwrap_or_default();
+    if met.of_several && before == outcome(old, input, room) {
+        Ok((one, true))
     } else {
         Err(Difference::of(&one, &before))
     }
@@ -134,69 +148,6 @@ pub fn runs(lines: &[u8]) -> Vec<Vec<&[u8]>> {
 /// Whether the tiers of a run rise.
 pub fn in_tier_order(run: &[&[u8]]) -> bool {
     run.is_sorted_by_key(|line| line[2])
-}
-
-/// Whether two reports are of the same answer and bytes but for runs of lines: `before` has these in
-/// tier order, the other has them in another one, each is cut in its own order, and the excesses add
-/// up to the same. All that C-17 changed.
-pub fn other_order(one: &Outcome, before: &Outcome) -> bool {
-    let Some(Answer::Written(length)) = Answer::unpacked(one.answer) else {
-        return false;
-    };
-    let (header, end) = (GUARD + HEADER, GUARD + length);
-    let split = |area: &[u8]| {
-        let lines = area.get(header..end)?.to_vec();
-        Some((lines, [&area[..header], &area[end..]].concat()))
-    };
-    let (Some((one_lines, one_beside)), Some((before_lines, before_beside))) =
-        (split(&one.area), split(&before.area))
-    else {
-        return false;
-    };
-    let (one_runs, before_runs) = (runs(&one_lines), runs(&before_lines));
-    one.answer == before.answer
-        && one_beside == before_beside
-        && one_lines != before_lines
-        && cut_in_order(&one_lines)
-        && cut_in_order(&before_lines)
-        && one_runs.len() == before_runs.len()
-        && one_runs
-            .iter()
-            .zip(&before_runs)
-            .all(|(one, before)| one == before || other_order_of_run(one, before))
-}
-
-/// Exposure, limit, left and excess of a line.
-fn amounts(line: &[u8]) -> [i128; 4] {
-    [8, 16, 24, 32].map(|at| i128::from(weightrose::amount(&line[at..], 0)))
-}
-
-/// Whether each line is cut at its limit less what stands in its group's lines before it.
-fn cut_in_order(lines: &[u8]) -> bool {
-    let (mut top, mut standing) = (None, 0);
-    lines.chunks(LINE).all(|line| {
-        if top.replace(&line[..2]) != Some(&line[..2]) {
-            standing = 0;
-        }
-        let [exposure, limit, left, excess] = amounts(line);
-        let cut = left == limit - standing && excess == (exposure - left).max(0);
-        standing += exposure - excess;
-        cut
-    })
-}
-
-fn other_order_of_run(one: &[&[u8]], before: &[&[u8]]) -> bool {
-    // All of a line but what is left and the excess.
-    let kept = |run: &[&[u8]]| {
-        let mut lines: Vec<Vec<u8>> = run.iter().map(|line| line[..24].to_vec()).collect();
-        lines.sort_unstable();
-        lines
-    };
-    let excess = |run: &[&[u8]]| run.iter().map(|line| amounts(line)[3]).sum::<i128>();
-    in_tier_order(before)
-        && !in_tier_order(one)
-        && kept(one) == kept(before)
-        && excess(one) == excess(before)
 }
 
 /// What a conversion must keep, as the library has it: the same answer and the same bytes of a
@@ -224,6 +175,21 @@ pub fn compare_bills(one: Biller, other: Biller, billing: &Billing) -> Result<Ou
     compare(
         &|schedule, book, lent| one(schedule, book, *rate, lent),
         &|schedule, book, lent| other(schedule, book, *rate, lent),
+        input,
+    )
+}
+
+/// The same with a biller from before C-18, as `compare_before` has it.
+pub fn compare_bills_before(
+    one: Biller,
+    before: Biller,
+    billing: &Billing,
+) -> Result<(Outcome, bool), Difference> {
+    let Billing { input, rate } = billing;
+    compare_before_by(
+        &|schedule, book, lent| second_bills_before(schedule, book, *rate, lent),
+        &|schedule, book, lent| one(schedule, book, *rate, lent),
+        &|schedule, book, lent| before(schedule, book, *rate, lent),
         input,
     )
 }
@@ -263,6 +229,21 @@ pub fn compare_headroom(
     compare(
         &|schedule, book, lent| one(schedule, book, questions, lent),
         &|schedule, book, lent| other(schedule, book, questions, lent),
+        input,
+    )
+}
+
+/// The same with an answerer from before C-18, as `compare_before` has it.
+pub fn compare_headroom_before(
+    one: Answerer,
+    before: Answerer,
+    asking: &Asking,
+) -> Result<(Outcome, bool), Difference> {
+    let Asking { input, questions } = asking;
+    compare_before_by(
+        &|schedule, book, lent| second_headroom_before(schedule, book, questions, lent),
+        &|schedule, book, lent| one(schedule, book, questions, lent),
+        &|schedule, book, lent| before(schedule, book, questions, lent),
         input,
     )
 }
@@ -369,3 +350,18 @@ pub fn library(schedule: &[u8], book: &[u8], lent: &mut Lent) -> u64 {
 pub fn second(schedule: &[u8], book: &[u8], lent: &mut Lent) -> u64 {
     second::report(schedule, book, lent.buffer()).packed()
 }
+
+/// What there was before C-18, with document 01's half of each treaty by itself.
+pub fn second_before(schedule: &[u8], book: &[u8], lent: &mut Lent) -> u64 {
+    second::report_by(&BEFORE, schedule, book, lent.buffer()).packed()
+}
+
+fn second_bills_before(schedule: &[u8], book: &[u8], rate: u64, lent: &mut Lent) -> u64 {
+    second::bills_by(&BEFORE, schedule, book, rate, lent.buffer()).packed()
+}
+
+fn second_headroom_before(schedule: &[u8], book: &[u8], questions: &[u8], lent: &mut Lent) -> u64 {
+    second::headroom_by(&BEFORE, schedule, book, questions, lent.buffer()).packed()
+}
+
+const BEFORE: Slip = Slip::HalfOfEachTreaty;

@@ -1,27 +1,27 @@
 //! Document 02's requests through the library, with their figures and both sides of each of their
 //! boundaries: C-11, specialist reinsurers; C-12, lines straight into the lent report; C-13, desks
 //! and the converter; C-14, the bills; C-15, rates in ten-thousandths; C-16, how much more may be
-//! bought; C-17, ties before rounding.
+//! bought; C-17, ties before rounding; C-18, the half of a reinsurer.
 
 use weightrose_tests::cases::{
     answers, answers_under, bills, bills_under, not_answered, not_billed, refusal, refused,
     refused_book, report, report_under, Report,
 };
 use weightrose_tests::compare::{
-    bought, compare_before, library, library_bills, library_headroom, outcome, room, Lent, Subject,
+    bought, in_tier_order, library, library_bills, library_headroom, outcome, room, runs, Subject,
 };
 use weightrose_tests::inputs::{
-    largest_report_book, largest_specialist_book, near_ties, sample, sixteen_tiers, small_fund,
-    Asking, Askings, Billing, Billings, Input, Inputs, KINDS,
+    largest_report_book, largest_specialist_book, near_ties, sample, shared_halves, sixteen_tiers,
+    small_fund, Asking, Askings, Billing, Billings, Input, Inputs, KINDS,
 };
 use weightrose_tests::random::Random;
 use weightrose_tests::raw::*;
-use weightrose_tests::second::{bills_by, headroom_by, rebuilt, report_by, tried, Slip};
+use weightrose_tests::second::{bills_by, halves_of, headroom_by, rebuilt, report_by, tried, Slip};
 use weightrose_tests::weightrose::{
-    bill, convert, headroom, packed_bills, packed_headroom, packed_report, published, Answer,
-    Refusal, ANSWER, BILLS, LARGEST_BOOK, LARGEST_REPORT, LINE, MOST_COST_RATE, MOST_QUESTIONS,
-    MOST_RATE_PER_MILLE, MOST_RATE_TEN_THOUSANDTHS, QUESTION, SCHEDULE, SCHEDULE_PER_MILLE,
-    SCHEDULE_TEN_THOUSANDTHS,
+    amount, bill, convert, headroom, packed_bills, packed_headroom, packed_report, published,
+    Answer, Refusal, ANSWER, BILLS, HEADER, LARGEST_BOOK, LARGEST_REPORT, LINE, MOST_COST_RATE,
+    MOST_QUESTIONS, MOST_RATE_PER_MILLE, MOST_RATE_TEN_THOUSANDTHS, QUESTION, SCHEDULE,
+    SCHEDULE_PER_MILLE, SCHEDULE_TEN_THOUSANDTHS,
 };
 
 const TOTAL: u64 = 10_000_000_000;
@@ -2056,6 +2056,17 @@ fn c17_questions_are_answered_as_before() {
     }
 }
 
+/// A report's lines in runs of one group and limit: of each run, all of its lines but left and
+/// excess, by tier, and the sum of its excesses.
+fn but_for_order(report: &[u8]) -> Vec<(Vec<Vec<u8>>, u64)> {
+    let kept = |run: &Vec<&[u8]>| {
+        let mut lines: Vec<Vec<u8>> = run.iter().map(|line| line[..24].to_vec()).collect();
+        lines.sort_unstable();
+        (lines, run.iter().map(|line| amount(line, 4)).sum())
+    };
+    runs(&report[HEADER..]).iter().map(kept).collect()
+}
+
 /// What stays, over all near ties that are listed: the answer, the header and with it group excess
 /// and charge, the lines but for order, left and excess where limits are equal, and the sum of the
 /// excesses there; every answer to a question; and the sum of the bills. Most of the reports, and
@@ -2063,19 +2074,21 @@ fn c17_questions_are_answered_as_before() {
 #[test]
 fn c17_what_stays() {
     let old = Slip::RankedByCents;
-    let old_report = |schedule: &[u8], book: &[u8], lent: &mut Lent| {
-        report_by(&old, schedule, book, lent.buffer()).packed()
-    };
     let questions = [ask(2, 11), ask(2, 6), ask(3, 10), ask(4, 5), ask(1, 4), ask(1, 3)];
     let list = RawQuestion::list(&questions);
     let inputs = near_ties();
     let (mut reports, mut bills) = (0, 0);
     for (number, input) in inputs.iter().enumerate() {
         let Input { schedule, book, .. } = input;
-        let compared = compare_before(&library, &old_report, input);
-        let (now, other_order) = compared.unwrap_or_else(|what| panic!("input {number}: {what}"));
-        assert_eq!(now.answer >> 32, 0, "input {number}");
-        reports += u64::from(other_order);
+        let mut made = [vec![0; LARGEST_REPORT], vec![0; LARGEST_REPORT]];
+        let now = packed_report(schedule, book, &mut made[0]);
+        let before = report_by(&old, schedule, book, &mut made[1]).packed();
+        assert_eq!((now >> 32, now), (0, before), "input {number}");
+        made.iter_mut().for_each(|report| report.truncate(now as usize));
+        assert_eq!(made[0][..HEADER], made[1][..HEADER], "input {number}");
+        assert_eq!(but_for_order(&made[0]), but_for_order(&made[1]), "input {number}");
+        assert!(runs(&made[1][HEADER..]).iter().all(|run| in_tier_order(run)), "input {number}");
+        reports += u64::from(made[0] != made[1]);
 
         let mut answers = [[0; 6 * ANSWER]; 2];
         headroom(schedule, book, &list, &mut answers[0]);
@@ -2096,4 +2109,479 @@ fn c17_what_stays() {
     }
     let count = inputs.len();
     assert!(count > 7_500 && reports > 6_000 && bills > 2_000, "{count}: {reports}, {bills}");
+}
+
+/// Entry classes and months of an ungraded reinsurer's treaties, so that each has a tier of its own.
+const APART: [(u8, u8, u8); 7] =
+    [(0, 0, 1), (1, 0, 9), (1, 3, 8), (1, 12, 7), (2, 0, 6), (2, 3, 5), (2, 12, 4)];
+
+/// A treaty whose remainder is in the tier that this number of `APART` has.
+fn treaty(number: usize, counterparty: u16, net: u64) -> RawAsset {
+    let (entry, months, _) = APART[number];
+    RawAsset { entry, ..retrocession(counterparty, months, net) }
+}
+
+/// A good letter of credit.
+fn letter(bank: u16, value: u64) -> RawMitigant {
+    RawMitigant { form: 5, flags: 8, counterparty: bank, value }
+}
+
+/// The reinsurer of `of_a_reinsurer`, and the bank of its first treaty's letter.
+const REINSURER: u16 = 1;
+const FIRST_BANK: u16 = 2;
+
+/// A fund with a reinsurer, an ungraded name, and with a bank for each of seven treaties.
+fn of_a_reinsurer() -> RawBook {
+    let mut book = RawBook::empty(TOTAL, BASE, 0);
+    book.counterparty(RawCounterparty::default());
+    book.counterparties.extend([bank(); 7]);
+    book
+}
+
+/// Treaties of these nets, each with a letter of so much of its own bank's, or with none.
+fn with_letters(treaties: &[(u64, u64)]) -> RawBook {
+    let mut book = of_a_reinsurer();
+    for (number, &(net, value)) in treaties.iter().enumerate() {
+        let letters = [letter(FIRST_BANK + number as u16, value)];
+        book.asset(treaty(number, REINSURER, net), &letters[..usize::from(value > 0)]);
+    }
+    book
+}
+
+fn exposure(report: &Report, top: u16, tier: u8) -> u64 {
+    let lines = report.lines();
+    let line = lines.iter().find(|line| (line.top, line.tier) == (top, tier));
+    line.map_or(0, |line| line.amounts[0])
+}
+
+/// What is covered and what remains of each of the first so many treaties, by the lines of their
+/// banks and of the reinsurer.
+fn covered_and_left(report: &Report, treaties: usize) -> Vec<[u64; 2]> {
+    let of = |number: usize| {
+        let covered = exposure(report, FIRST_BANK + number as u16, 11);
+        [covered, exposure(report, REINSURER, APART[number].2)]
+    };
+    (0..treaties).map(of).collect()
+}
+
+/// The same of treaties with letters.
+fn halves(treaties: &[(u64, u64)]) -> Vec<[u64; 2]> {
+    let report = report(&with_letters(treaties));
+    assert_eq!(report.all_net(), treaties.iter().map(|(net, _)| net).sum::<u64>());
+    covered_and_left(&report, treaties.len())
+}
+
+/// The report of a book as it was before C-18, by the second implementation with document 01's half.
+fn report_before(book: &RawBook) -> Report {
+    let mut buffer = vec![0; LARGEST_REPORT];
+    let packed =
+        report_by(&Slip::HalfOfEachTreaty, &published(), &book.bytes(), &mut buffer).packed();
+    assert_eq!(packed >> 32, 0);
+    buffer.truncate(packed as usize);
+    Report { bytes: buffer }
+}
+
+/// "Two treaties of 101 and 99 with good letters of 101 only on the first cover 100", and not 50.
+#[test]
+fn c18_the_requests_row() {
+    assert_eq!(halves(&[(101, 101), (99, 0)]), [[100, 1], [0, 99]]);
+    let before = report_before(&with_letters(&[(101, 101), (99, 0)]));
+    assert_eq!(covered_and_left(&before, 2), [[50, 51], [0, 99]]);
+    // "good letters": two of 101 together cover the same.
+    let mut book = of_a_reinsurer();
+    book.asset(treaty(0, REINSURER, 101), &[letter(FIRST_BANK, 50), letter(FIRST_BANK, 51)]);
+    book.asset(treaty(1, REINSURER, 99), &[]);
+    assert_eq!(covered_and_left(&report(&book), 2), [[100, 1], [0, 99]]);
+    // Both in one tier, as the program prints them.
+    book.assets[1].entry = 0;
+    assert_eq!(
+        report(&book).printed(),
+        "1 1 100 250000000 250000000 0\n2 11 100 2500000000 2500000000 0\ncharge 0\n"
+    );
+}
+
+/// "each up to its own net": on the second treaty alone 99 of the half of 100 can be drawn.
+#[test]
+fn c18_up_to_its_own_net() {
+    assert_eq!(halves(&[(101, 0), (99, 101)]), [[0, 101], [99, 0]]);
+    assert_eq!(halves(&[(101, 0), (99, 98)]), [[0, 101], [98, 1]]);
+    assert_eq!(halves(&[(10, 1_000), (190, 1_000)]), [[10, 0], [90, 100]]);
+    assert_eq!(halves(&[(0, 1_000), (190, 1_000)]), [[0, 0], [95, 95]]);
+    assert_eq!(halves(&[(190, 0), (0, 1_000)]), [[0, 190], [0, 0]]);
+    // More than half of its own net, and all of it.
+    assert_eq!(halves(&[(100, 80), (100, 0)]), [[80, 20], [0, 100]]);
+    assert_eq!(halves(&[(100, 0), (100, 100)]), [[0, 100], [100, 0]]);
+    let before = report_before(&with_letters(&[(100, 80), (100, 0)]));
+    assert_eq!(covered_and_left(&before, 2), [[50, 50], [0, 100]]);
+}
+
+/// "rounded down once": of the sum, and not of each.
+#[test]
+fn c18_rounded_down_once() {
+    assert_eq!(halves(&[(1, 1), (1, 0)]), [[1, 0], [0, 1]]);
+    assert_eq!(halves(&[(1, 0), (1, 1)]), [[0, 1], [1, 0]]);
+    assert_eq!(halves(&[(1, 1), (1, 1)]), [[1, 0], [0, 1]]);
+    assert_eq!(halves(&[(1, 1), (1, 1), (1, 1)]), [[1, 0], [0, 1], [0, 1]]);
+    assert_eq!(halves(&[(1, 1), (1, 1), (1, 1), (1, 0)]), [[1, 0], [1, 0], [0, 1], [0, 1]]);
+    for (nets, half) in [((101, 98), 99), ((101, 99), 100), ((101, 100), 100), ((101, 101), 101)] {
+        assert_eq!(halves(&[(nets.0, 101), (nets.1, 0)])[0], [half, nets.0 - half]);
+    }
+    assert_eq!(halves(&[(1, 1)]), [[0, 1]]);
+}
+
+/// "in book order": the first may draw all of it, and the next ones what it left.
+#[test]
+fn c18_in_book_order() {
+    assert_eq!(halves(&[(101, 101), (101, 101)]), [[101, 0], [0, 101]]);
+    assert_eq!(halves(&[(101, 100), (101, 101)]), [[100, 1], [1, 100]]);
+    assert_eq!(halves(&[(100, 100), (100, 100), (100, 100)]), [[100, 0], [50, 50], [0, 100]]);
+    assert_eq!(halves(&[(100, 30), (100, 100), (100, 100)]), [[30, 70], [100, 0], [20, 80]]);
+    assert_eq!(halves(&[(100, 0), (100, 100), (100, 100)]), [[0, 100], [100, 0], [50, 50]]);
+    assert_eq!(halves(&[(20, 20), (500, 90), (80, 80)]), [[20, 0], [90, 410], [80, 0]]);
+    // It runs out at the third: a cent before, just there and a cent behind.
+    for (value, third) in [(49, 2), (50, 1), (51, 0)] {
+        let found = halves(&[(100, 50), (52, value), (50, 2), (0, 1)]);
+        assert_eq!(found[2], [third, 50 - third]);
+    }
+    // As many as have a tier of their own: 7 of 100, of which 350 are drawn.
+    let all = halves(&[(100, 60); 7]);
+    let covered: Vec<u64> = all.iter().map(|[covered, _]| *covered).collect();
+    assert_eq!(covered, [60, 60, 60, 60, 60, 50, 0]);
+}
+
+/// What is drawn is "what their recognised mitigants cover", and not their value; each mitigant
+/// covers "the lesser of its value and what may still be covered".
+#[test]
+fn c18_what_is_drawn() {
+    // 100 of the half; the first treaty's letters come to 3,000 and cover its net of 30.
+    assert_eq!(halves(&[(30, 3_000), (170, 3_000)]), [[30, 0], [70, 100]]);
+    // Two banks on the first treaty: in order, as far as the half goes.
+    let mut book = of_a_reinsurer();
+    let both = [letter(FIRST_BANK, 60), letter(FIRST_BANK + 2, 60)];
+    book.asset(treaty(0, REINSURER, 150), &both);
+    book.asset(treaty(1, REINSURER, 51), &[letter(FIRST_BANK + 1, 51)]);
+    let made = report(&book);
+    assert_eq!(covered_and_left(&made, 2), [[60, 50], [0, 51]]);
+    assert_eq!(exposure(&made, FIRST_BANK + 2, 11), 40);
+}
+
+/// Cash, securities, debt and guarantees draw as letters do, each as an exposure of its own.
+#[test]
+fn c18_other_mitigants() {
+    let mut book = of_a_reinsurer();
+    let home = book.counterparty(RawCounterparty { kind: 2, ..Default::default() });
+    let issuer = book.counterparty(graded());
+    let of = |form, flags, counterparty| RawMitigant { form, flags, counterparty, value: 30 };
+    let mitigants = [
+        of(1, 17, FIRST_BANK),
+        of(2, 18, home),
+        of(3, 17, issuer),
+        of(4, 8, FIRST_BANK + 1),
+        of(5, 8, FIRST_BANK + 2),
+    ];
+    for (number, mitigant) in mitigants.into_iter().enumerate() {
+        book.asset(treaty(number, REINSURER, 50), &[mitigant]);
+    }
+    // 125 of 250: all of the first four, and 5 of the last.
+    let made = report(&book);
+    let left = APART[..5].iter().map(|&(_, _, tier)| exposure(&made, REINSURER, tier));
+    assert_eq!(left.collect::<Vec<u64>>(), [20, 20, 20, 20, 45]);
+    let parts = [(FIRST_BANK, 12), (issuer, 2), (FIRST_BANK + 1, 11), (FIRST_BANK + 2, 11)];
+    assert_eq!(parts.map(|(top, tier)| exposure(&made, top, tier)), [30, 30, 30, 5]);
+}
+
+/// "recognised mitigants": others cover and draw nothing; "one without draws nothing".
+#[test]
+fn c18_what_is_not_recognised() {
+    let no_terms = RawMitigant { flags: 23, ..letter(FIRST_BANK, 101) };
+    let mut of_none = of_a_reinsurer();
+    let ungraded = of_none.counterparty(RawCounterparty { kind: 1, ..Default::default() });
+    for bad in [no_terms, letter(REINSURER, 101), letter(ungraded, 101)] {
+        let mut book = of_none.clone();
+        book.asset(treaty(0, REINSURER, 101), &[bad]);
+        book.asset(treaty(1, REINSURER, 99), &[letter(FIRST_BANK + 1, 99)]);
+        assert_eq!(covered_and_left(&report(&book), 2), [[0, 101], [99, 0]]);
+        // Beside a good one on the same treaty.
+        let mut book = of_none.clone();
+        book.asset(treaty(0, REINSURER, 101), &[bad, letter(FIRST_BANK, 40), bad]);
+        book.asset(treaty(1, REINSURER, 99), &[letter(FIRST_BANK + 1, 99)]);
+        assert_eq!(covered_and_left(&report(&book), 2), [[40, 61], [60, 39]]);
+    }
+}
+
+/// "unlinked": a linked treaty neither adds to the half nor draws on it.
+#[test]
+fn c18_a_linked_treaty() {
+    let linked = RawAsset { flags: 1, ..treaty(0, REINSURER, 1_000) };
+    let own = [
+        (treaty(0, REINSURER, 101), letter(FIRST_BANK, 101)),
+        (treaty(1, REINSURER, 99), letter(FIRST_BANK + 1, 99)),
+    ];
+    for place in 0..3 {
+        let mut book = of_a_reinsurer();
+        for number in 0..3 {
+            if number == place {
+                book.asset(linked, &[letter(FIRST_BANK + 2, 1_000)]);
+            }
+            if let Some((treaty, letter)) = own.get(number) {
+                book.asset(*treaty, &[*letter]);
+            }
+        }
+        let report = report(&book);
+        assert_eq!(covered_and_left(&report, 3), [[100, 1], [0, 99], [0, 0]]);
+        assert_eq!(report.all_net(), 1_200);
+    }
+    // One of two linked: the other one's half is its own, as T9's.
+    let mut book = with_letters(&[(101, 101), (99, 0)]);
+    book.assets[1].flags = 1;
+    assert_eq!(covered_and_left(&report(&book), 2), [[50, 51], [0, 0]]);
+}
+
+/// Other assets with the reinsurer neither add to its half nor draw on it; they are covered up to
+/// their nets.
+#[test]
+fn c18_other_kinds() {
+    let cash = RawMitigant { form: 1, flags: 17, counterparty: FIRST_BANK + 4, value: 700 };
+    for kind in KINDS {
+        let mut book = of_a_reinsurer();
+        book.asset(treaty(0, REINSURER, 101), &[letter(FIRST_BANK, 101)]);
+        book.asset(held(0, kind, REINSURER, 900), &[cash]);
+        book.asset(treaty(1, REINSURER, 99), &[letter(FIRST_BANK + 1, 99)]);
+        let report = report(&book);
+        let found = [0, 1].map(|number| exposure(&report, FIRST_BANK + number, 11));
+        assert_eq!(found, [100, 0], "kind {kind}");
+        assert_eq!(exposure(&report, FIRST_BANK + 4, 12), 700, "kind {kind}");
+    }
+}
+
+/// "that counterparty's": halves of two reinsurers of one group, or of two groups, are apart.
+#[test]
+fn c18_two_reinsurers() {
+    for parent in [REINSURER, 0] {
+        let mut book = of_a_reinsurer();
+        let other = book.counterparty(RawCounterparty { parent, ..Default::default() });
+        book.asset(treaty(0, REINSURER, 101), &[letter(FIRST_BANK, 200)]);
+        book.asset(treaty(1, other, 300), &[letter(FIRST_BANK + 1, 1_000)]);
+        book.asset(treaty(2, REINSURER, 99), &[letter(FIRST_BANK + 2, 200)]);
+        book.asset(treaty(3, other, 1), &[letter(FIRST_BANK + 3, 1)]);
+        let report = report(&book);
+        let covered = [0, 1, 2, 3].map(|number| exposure(&report, FIRST_BANK + number, 11));
+        assert_eq!(covered, [100, 150, 0, 0]);
+    }
+}
+
+/// "neither of kind 4 nor an approved affiliate" (01): such ones have no half, and each of their
+/// treaties may be covered whole; every other sort of counterparty has one.
+#[test]
+fn c18_who_has_a_half() {
+    for sort in every_sort() {
+        let mut book = of_a_reinsurer();
+        book.counterparties[0] = sort;
+        book.asset(treaty(0, REINSURER, 101), &[letter(FIRST_BANK, 101)]);
+        book.asset(treaty(1, REINSURER, 99), &[letter(FIRST_BANK + 1, 99)]);
+        let report = report(&book);
+        let covered = [0, 1].map(|number| exposure(&report, FIRST_BANK + number, 11));
+        let whole = sort.kind == 4 || sort.flags & 2 != 0;
+        assert_eq!(covered, if whole { [101, 99] } else { [100, 0] }, "{sort:?}");
+    }
+    // An affiliate in the reinsurer's group.
+    let mut book = of_a_reinsurer();
+    let affiliate = RawCounterparty { parent: REINSURER, flags: 2, ..Default::default() };
+    let affiliate = book.counterparty(affiliate);
+    book.asset(treaty(0, affiliate, 500), &[letter(FIRST_BANK, 500)]);
+    book.asset(treaty(1, REINSURER, 101), &[letter(FIRST_BANK + 1, 101)]);
+    book.asset(treaty(2, affiliate, 300), &[letter(FIRST_BANK + 2, 200)]);
+    book.asset(treaty(3, REINSURER, 99), &[letter(FIRST_BANK + 3, 99)]);
+    let found = covered_and_left(&report(&book), 4);
+    assert_eq!(found, [[500, 0], [100, 1], [200, 100], [0, 99]]);
+}
+
+/// "nets": after stress, netted liabilities and deductions, none of them below 0.
+#[test]
+fn c18_nets() {
+    let plain = treaty(0, REINSURER, 0);
+    let of = |value, offsets, deductions, combination_stress| RawAsset {
+        value,
+        offsets,
+        deductions,
+        combination_stress,
+        ..plain
+    };
+    let rises = RawAsset { flags: 2, insurance_stress: 101, ..of(500, 0, 0, 7) };
+    let does_not = RawAsset { flags: 0, ..rises };
+    for (first, half) in [
+        (of(500, 0, 0, 101), 100),
+        (of(500, 20, 30, 151), 100),
+        (of(500, 20, 30, 51), 50),
+        (of(500, 300, 300, 101), 49),
+        (of(500, 101, 0, 101), 49),
+        (rises, 100),
+        (does_not, 53),
+    ] {
+        let mut book = of_a_reinsurer();
+        book.asset(first, &[]);
+        book.asset(treaty(1, REINSURER, 99), &[letter(FIRST_BANK + 1, 1_000)]);
+        let report = report(&book);
+        assert_eq!(exposure(&report, FIRST_BANK + 1, 11), half.min(99), "{first:?}");
+        assert_eq!(exposure(&report, REINSURER, 9), 99 - half.min(99), "{first:?}");
+    }
+}
+
+/// C-11: a retrocession adds to the half and draws on it like any other treaty.
+#[test]
+fn c18_retrocessions() {
+    for (months, tier) in [(0, 13), (3, 14), (12, 15)] {
+        let mut book = RawBook { specialist: 1, ..of_a_reinsurer() };
+        book.asset(retrocession(REINSURER, months, 101), &[letter(FIRST_BANK, 60)]);
+        book.asset(treaty(0, REINSURER, 99), &[letter(FIRST_BANK + 1, 99)]);
+        let report = report(&book);
+        let covered = [0, 1].map(|number| exposure(&report, FIRST_BANK + number, 11));
+        assert_eq!(covered, [60, 40]);
+        assert_eq!([tier, 1].map(|tier| exposure(&report, REINSURER, tier)), [41, 59]);
+    }
+}
+
+/// "T9 is unchanged, having one treaty": 50 of 101, and 101 of a registered reinsurer. So is every
+/// report in which no half is shared.
+#[test]
+fn c18_t9_is_unchanged() {
+    assert_eq!(halves(&[(101, 101)]), [[50, 51]]);
+    let mut registered = with_letters(&[(101, 101)]);
+    registered.counterparties[0].kind = 4;
+    assert_eq!(covered_and_left(&report(&registered), 1), [[101, 0]]);
+    let inputs = Inputs::new(18);
+    let mut same = 0;
+    for number in inputs.fixed()..inputs.fixed() + 10_000 {
+        let Input { schedule, book, .. } = inputs.get(number);
+        if halves_of(&schedule, &book).is_none_or(|met| met.of_several) {
+            continue;
+        }
+        let mut made = [vec![0; LARGEST_REPORT], vec![0; LARGEST_REPORT]];
+        let now = packed_report(&schedule, &book, &mut made[0]);
+        let before = report_by(&Slip::HalfOfEachTreaty, &schedule, &book, &mut made[1]);
+        assert_eq!((now, &made[0]), (before.packed(), &made[1]), "input {number}");
+        same += 1;
+    }
+    assert!(same > 2_000, "{same}");
+}
+
+/// "Parts and remainder add up to net" (01): what is without limit, linked or not, and all lines'
+/// exposures come to all net, on all listed inputs of C-18.
+#[test]
+fn c18_parts_and_remainders_add_up() {
+    let mut reports = 0;
+    for input in shared_halves() {
+        let mut buffer = vec![0; LARGEST_REPORT];
+        let packed = packed_report(&input.schedule, &input.book, &mut buffer);
+        if packed >> 32 > 0 {
+            continue;
+        }
+        buffer.truncate(packed as usize);
+        let report = Report { bytes: buffer };
+        let exposures: u64 = report.lines().iter().map(|line| line.amounts[0]).sum();
+        assert_eq!(amount(&report.bytes, 4) + exposures, report.all_net(), "{}", input.name);
+        reports += 1;
+    }
+    assert!(reports > 3_000, "{reports}");
+}
+
+/// W is made of what letters cover: with 100 covered and no longer 50, the limit of deposits is 50
+/// less. A3 counts what remains: 100, and no longer 150.
+#[test]
+fn c18_w_and_a3() {
+    let mut book = with_letters(&[(101, 101), (99, 0)]);
+    book.assets.iter_mut().for_each(|asset| (asset.entry, asset.months) = (0, 0));
+    book.asset(held(0, 4, FIRST_BANK + 1, 1), &[]);
+    let limit = |report: &Report| {
+        let lines = report.lines();
+        lines.iter().find(|line| line.tier == 12).map(|line| line.amounts[1])
+    };
+    let [now, before] = [report(&book), report_before(&book)];
+    assert_eq!([limit(&now), limit(&before)], [TOTAL / 2 - 100, TOTAL / 2 - 50].map(Some));
+    assert_eq!([now.a3_sum(), before.a3_sum()], [100, 150]);
+}
+
+/// C-14: the request's treaties a hundredfold, at desks 3 and 5, under limits of 4,000 for all tiers.
+/// The bank's 10,000 are cut by 6,000, which is desk 3's, and of the reinsurer's 100 and 9,900 the
+/// second by 6,000, which is desk 5's. Before C-18 it was 1,000 of the bank's 5,000, 1,100 of the
+/// reinsurer's 5,100, and all of its 9,900.
+#[test]
+fn c18_bills() {
+    let mut book = with_letters(&[(101, 101), (99, 0)]);
+    (book.version, book.assets[1].entry) = (2, 0);
+    (book.assets[0].desk, book.assets[1].desk) = (3, 5);
+    book.assets.iter_mut().for_each(|asset| asset.combination_stress *= 100);
+    book.mitigants[0].value *= 100;
+    let mut schedule = plain(1, [0; 3], 4_000);
+    schedule.rows[7].fixed = MOST;
+    let schedule = schedule.bytes();
+    assert_eq!(bills_under(&schedule, &book, 1_000), [(3, 600), (5, 600)]);
+    let mut before = [0; BILLS];
+    bills_by(&Slip::HalfOfEachTreaty, &schedule, &book.bytes(), 1_000, &mut before);
+    assert_eq!([3, 5].map(|desk| bill(&before, desk)), [210, 990]);
+    // Letters on the second alone: the bank's 9,900, and a remainder of 10,100 for desk 3.
+    let mut second = book.clone();
+    (second.assets[0].mitigants, second.assets[1].mitigants) = (0, 1);
+    assert_eq!(bills_under(&schedule, &second, 1_000), [(3, 610), (5, 590)]);
+}
+
+/// C-16: what more may be bought of the bank's bills, and of any other asset with the reinsurer,
+/// hangs on the half. Limits are 200 for all tiers, of which 100 stand with the bank, and 100 with
+/// the reinsurer. Before C-18 it was 50 and 150.
+#[test]
+fn c18_questions() {
+    let book = with_letters(&[(101, 101), (99, 0)]);
+    let schedule = plain(1, [0; 3], 200).bytes();
+    let questions = [ask(FIRST_BANK, 3), ask(FIRST_BANK, 11), ask(REINSURER, 11)];
+    assert_eq!(answers_under(&schedule, &book, &questions), [100, 100, 100]);
+    let list = RawQuestion::list(&questions);
+    let mut before = [0; 3 * ANSWER];
+    headroom_by(&Slip::HalfOfEachTreaty, &schedule, &book.bytes(), &list, &mut before);
+    assert_eq!([0, 1, 2].map(|question| amount(&before, question)), [150, 150, 50]);
+    // Letters on the second alone: 99 and 101.
+    let other = with_letters(&[(101, 0), (99, 101)]);
+    let questions = [ask(FIRST_BANK + 1, 3), ask(REINSURER, 11)];
+    assert_eq!(answers_under(&schedule, &other, &questions), [101, 99]);
+}
+
+/// C-13: a converted book has the same halves, and the order of its desks does not matter.
+#[test]
+fn c18_both_versions_of_a_book() {
+    for treaties in [[(101, 101), (99, 0)], [(101, 0), (99, 101)], [(101, 101), (101, 101)]] {
+        let mut book = with_letters(&treaties);
+        let wanted = report(&book).bytes;
+        assert_eq!(report_of(&converted(&book)), wanted);
+        book.version = 2;
+        for desks in [[1, 2], [2, 1]] {
+            (book.assets[0].desk, book.assets[1].desk) = (desks[0], desks[1]);
+            assert_eq!(report(&book).bytes, wanted);
+        }
+    }
+}
+
+/// The largest sums: nets of M twice, which VAF′ leaves where M is excluded; 900 treaties of one
+/// reinsurer that come to M; and 900 of M, which 15 turns back, linked or not.
+#[test]
+fn c18_the_largest_halves() {
+    let mut book = with_letters(&[(MOST, MOST), (MOST, MOST)]);
+    book.assets.iter_mut().for_each(|asset| asset.value = 0);
+    (book.total, book.base, book.excluded) = (0, 0, MOST);
+    assert_eq!(covered_and_left(&report(&book), 2), [[MOST, 0], [0, MOST]]);
+    book.mitigants[0].value = MOST - 1;
+    assert_eq!(covered_and_left(&report(&book), 2), [[MOST - 1, 1], [1, MOST - 1]]);
+
+    let of_many = |asset: RawAsset| {
+        let mut book = of_a_reinsurer();
+        (book.total, book.base) = (0, 0);
+        (0..900).for_each(|_| book.asset(asset, &[letter(FIRST_BANK, MOST)]));
+        book
+    };
+    let share = MOST / 900;
+    let many = of_many(RawAsset { value: 0, ..treaty(0, REINSURER, share) });
+    let made = report(&many);
+    assert_eq!(exposure(&made, FIRST_BANK, 11), 900 * share / 2);
+    assert_eq!(exposure(&made, REINSURER, 1), 900 * share - 900 * share / 2);
+    let most = RawAsset { value: 0, ..treaty(0, REINSURER, MOST) };
+    assert_eq!(refused_book(&of_many(most)), Refusal::StressedAssets);
+    assert_eq!(refused_book(&of_many(RawAsset { flags: 1, ..most })), Refusal::StressedAssets);
 }

@@ -2,17 +2,20 @@
 use mathlib.Core.Bool.{true, false}
 use mathlib.Core.Path.{_≡_}
 use mathlib.Core.List.{List}
-use Prim.Native.Nat.{ℕ, _+_, _-_, _/_, _%_, _^_, _<_}
+use Prim.Native.Nat.{ℕ, _+_, _-_, _/_, _%_, _^_, _≤_, _<_}
 use native.Mathlib.Omega.{arith}
-use Rattle.words.specs.Words.{if_then_else_}
+use lib.ListN.{getD, set}
+use lib.Seq.{set-getD}
+use Rattle.words.specs.Words.{_=?_, if_then_else_}
+use Rattle.words.specs.Choice.{if-le}
 use Rattle.book.specs.declared.Asset.{Asset}
 use Rattle.book.specs.Fields.{linked, reinsurance}
 use Rattle.exposure.specs.Values.{stressed, net}
 use Rattle.columns.specs.Column.{digit, ageOf}
 use Rattle.assets.specs.declared.Values.{Values}
 use Rattle.assets.specs.declared.Share.{Share}
-use Rattle.assets.specs.Shares.{restOf}
-use Rattle.assets.specs.Entered.{columnIn, capIn, linkedOf, Shared, TreatyFits, withTreaty, withOther, Settled, Enters, Entered}
+use Rattle.assets.specs.Shares.{restOf, treatyRest}
+use Rattle.assets.specs.Entered.{columnIn, drawnIn, linkedOf, Shared, TreatyFits, withTreaty, withOther, Settled, Enters, Entered}
 
 -- what an asset's net starts from
 abbrev from : Asset → ℕ
@@ -38,7 +41,7 @@ module _ {a : Asset} {s : Share} where
   pub other-share : reinsurance a ≡ false → Shared a (a .value) s → Shared a (from a) s
   other-share e q = rw e q
 
-module _ {a : Asset} {s : Share} {place row : ℕ} {v : Values} {caps rests cells : List ℕ} (k : Enters a place row v caps rests cells) where
+module _ {a : Asset} {s : Share} {place row : ℕ} {v : Values} {draws halves rests cells : List ℕ} (k : Enters a place row v draws halves rests cells) where
   pub treaty-fits : reinsurance a ≡ true → {n : ℕ} → n ≡ stressed a → Shared a n s → TreatyFits v a s n
   treaty-fits e h q =
       let w = treaty-share e h q in
@@ -53,28 +56,35 @@ module _ {a : Asset} {s : Share} {place row : ℕ} {v : Values} {caps rests cell
   pub other-fits : reinsurance a ≡ false → Shared a (a .value) s → (v .all + s .net < 2 ^ 64) × (v .linked + s .linked < 2 ^ 64)
   other-fits e q = let w = other-share e q in (rw (net-is w) (k .all), rw (linked-is w) (k .linked))
 
-module _ {a : Asset} {s : Share} {place row column half : ℕ} (word terms : ℕ) {v r : Values} {caps₀ rests₀ cells₀ caps rests cells : List ℕ}
-    (t : Settled place (row + column) (s .rest) half caps₀ rests₀ cells₀ caps rests cells) where
-  pub treaty-entered : reinsurance a ≡ true → {n : ℕ} → n ≡ stressed a → Shared a n s → column ≡ digit (ageOf (a .entry) (a .months)) terms → half ≡ terms / 2 ^ 60 % 2 → r ≡ withTreaty v a s n
-      → Entered a place row word terms v caps₀ rests₀ cells₀ caps rests cells r
-  unfolding columnIn capIn
-  treaty-entered e h q ecol eh er =
+  -- a treaty's net has room in its counterparty's entry
+  pub net-fits : reinsurance a ≡ true → {n : ℕ} → n ≡ stressed a → Shared a n s → (getD halves (a .counterparty) 0 + s .net < 2 ^ 64) × (s .rest ≤ s .net)
+  net-fits e h q = (rw (net-is (treaty-share e h q)) (k .of-net), rw (q .of-rest, q .of-net) (if-le (linked a) (omega arith) (omega arith)))
+
+module _ {a : Asset} {s : Share} {place row column on : ℕ} (word terms : ℕ) {v r : Values} {draws₀ halves₀ rests₀ cells₀ draws halves rests cells : List ℕ}
+    (t : Settled place (row + column) (s .rest) on draws₀ rests₀ cells₀ draws rests cells) where
+  pub treaty-entered : reinsurance a ≡ true → {n : ℕ} → n ≡ stressed a → Shared a n s → column ≡ digit (ageOf (a .entry) (a .months)) terms → on ≡ (if terms / 2 ^ 60 % 2 =? 1 then a .counterparty else 0)
+      → halves ≡ set halves₀ (a .counterparty) (getD halves₀ (a .counterparty) 0 + s .rest) → r ≡ withTreaty v a s n
+      → Entered a place row word terms v draws₀ halves₀ rests₀ cells₀ draws halves rests cells r
+  unfolding columnIn drawnIn treatyRest
+  treaty-entered e h q ecol eo eh er =
       let w = treaty-share e h q in
       record {
-        of-cap = rw (t .of-cap, eh, rest-is w, e);
+        of-draw = rw (t .of-draw, eo, e);
+        of-half = rw (eh, rest-is w, e);
         of-rest = rw (t .of-rest, rest-is w);
         of-cell = rw (t .of-cell, ecol, e);
         sums = rw (er, e, linked-is w, net-is w, h);
       }
 
-  pub other-entered : reinsurance a ≡ false → Shared a (a .value) s → column ≡ digit (a .kind - 1) word → half ≡ 0 → r ≡ withOther v s
-      → Entered a place row word terms v caps₀ rests₀ cells₀ caps rests cells r
-  unfolding columnIn capIn
-  other-entered e q ecol eh er =
+  pub other-entered : reinsurance a ≡ false → Shared a (a .value) s → column ≡ digit (a .kind - 1) word → on ≡ 0 → halves ≡ halves₀ → r ≡ withOther v s
+      → Entered a place row word terms v draws₀ halves₀ rests₀ cells₀ draws halves rests cells r
+  unfolding columnIn drawnIn treatyRest
+  other-entered e q ecol eo eh er =
       let w = other-share e q in
       let none : (n : ℕ) → n + 0 ≡ n = λ n. omega arith in
       record {
-        of-cap = rw (t .of-cap, eh, rest-is w, e);
+        of-draw = rw (t .of-draw, eo, e);
+        of-half = rw (eh, e, none (getD halves₀ (a .counterparty) 0), set-getD);
         of-rest = rw (t .of-rest, rest-is w);
         of-cell = rw (t .of-cell, ecol, e);
         sums = rw (er, e, linked-is w, net-is w, none (v .reinsurance), none (v .netted), none (v .stressed));

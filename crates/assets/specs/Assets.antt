@@ -6,9 +6,9 @@
 use mathlib.Core.List.{List}
 use mathlib.Core.Path.{_≡_}
 use Prim.Native.Nat.{ℕ, _+_, _<_}
-use lib.ListN.{length}
+use lib.ListN.{length, getD}
 use Rattle.words.specs.Tables.{filled}
-use Rattle.book.specs.Records.{N, K, counterpartyAt, assetAt}
+use Rattle.book.specs.Records.{C, N, K, counterpartyAt, assetAt}
 use Rattle.book.specs.Book.{bookOf}
 use Rattle.exposure.specs.Values.{reinsuranceValues, allNetted, stressedLessNetted}
 use Rattle.exposure.specs.Parts.{remainder}
@@ -17,7 +17,8 @@ use Rattle.columns.specs.Column.{columnOf}
 use Rattle.parties.specs.Rows.{rowOf}
 use Rattle.assets.specs.declared.Values.{Values}
 use Rattle.assets.specs.Marks.{marked}
-use Rattle.assets.specs.Shares.{restOf, capOf}
+use Rattle.assets.specs.Shares.{restOf, drawsOn}
+use Rattle.assets.specs.Halves.{added}
 
 -- by its group and column, which its amount has no part in
 unfoldable pub restCell : List ℕ → ℕ → ℕ
@@ -32,16 +33,19 @@ pub record FundSums (b : List ℕ) (v : Values) : Type 0 where
   pub netted : v .netted ≡ allNetted (bookOf b)
   pub stressed : v .stressed ≡ stressedLessNetted (bookOf b)
 
--- an asset behind the last mitigant is marked at K + 1
-pub record Lent (b starts caps rests cells : List ℕ) : Type 0 where
+-- an asset behind the last mitigant is marked at K + 1; nets are added up from 0
+pub record Lent (b starts draws halves rests cells : List ℕ) : Type 0 where
   pub of-starts : K b + 1 < length starts
-  pub of-caps : N b < length caps
+  pub of-draws : N b < length draws
+  pub of-halves : C b < length halves
+  pub undrawn : (q : ℕ) → _≡_ {A = ℕ} (getD halves q 0) 0
   pub of-rests : N b < length rests
   pub of-cells : N b < length cells
 
-pub record Valued (b starts₀ caps₀ rests₀ cells₀ starts caps rests cells : List ℕ) (v : Values) : Type 0 where
+pub record Valued (b starts₀ draws₀ halves₀ rests₀ cells₀ starts draws halves rests cells : List ℕ) (v : Values) : Type 0 where
   pub marks : starts ≡ marked b starts₀ 1 1 (N b)
-  pub may : caps ≡ filled (λ p. capOf (counterpartyAt b) (assetAt b p)) (N b) caps₀
+  pub on : draws ≡ filled (λ p. drawsOn (counterpartyAt b) (assetAt b p)) (N b) draws₀
+  pub nets : halves ≡ added b halves₀ 1 (N b)
   pub there : rests ≡ filled (λ p. restOf (assetAt b p)) (N b) rests₀
   pub places : cells ≡ filled (restCell b) (N b) cells₀
   pub sums : FundSums b v

@@ -1,12 +1,12 @@
 -- What one asset adds to the tables and sums.
---   columnIn capIn   its remainder's column and what may be covered of it, out of its counterparty's two numbers
+--   columnIn drawnIn   its remainder's column and whose half it draws on, out of its counterparty's two numbers
 --   linkedOf lessNetted with-asset withTreaty withOther   the sums with one asset more
 --   Shared TreatyFits Settled Enters Entered   what the functions ask and give
 use mathlib.Core.List.{List}
 use mathlib.Core.Path.{_≡_}
 use Prim.Native.Nat.{ℕ, _+_, _-_, _/_, _%_, _^_, _≤_, _<_}
-use lib.ListN.{length, set}
-use Rattle.words.specs.Words.{if_then_else_}
+use lib.ListN.{length, getD, set}
+use Rattle.words.specs.Words.{_=?_, if_then_else_}
 use Rattle.wire.specs.Bytes.{M}
 use Rattle.book.specs.declared.Asset.{Asset}
 use Rattle.book.specs.Fields.{linked, reinsurance}
@@ -15,12 +15,13 @@ use Rattle.columns.specs.Column.{digit, ageOf}
 use Rattle.assets.specs.declared.Values.{Values}
 use Rattle.assets.specs.declared.Share.{Share}
 use Rattle.assets.specs.Shares.{restOf}
+use Rattle.assets.specs.Halves.{plus}
 
 unfoldable pub columnIn : Asset → ℕ → ℕ → ℕ
 columnIn a word terms = if reinsurance a then digit (ageOf (a .entry) (a .months)) terms else digit (a .kind - 1) word
 
-unfoldable pub capIn : Asset → ℕ → ℕ
-capIn a terms = restOf a / 2 ^ (if reinsurance a then terms / 2 ^ 60 % 2 else 0)
+unfoldable pub drawnIn : Asset → ℕ → ℕ
+drawnIn a terms = if reinsurance a then (if terms / 2 ^ 60 % 2 =? 1 then a .counterparty else 0) else 0
 
 -- an asset's net where it is linked
 abbrev pub linkedOf : Asset → ℕ
@@ -73,14 +74,14 @@ pub record TreatyFits (v : Values) (a : Asset) (s : Share) (stressed : ℕ) : Ty
   pub netted : v .netted + a .offsets < 2 ^ 64
   pub of-stressed : v .stressed + (stressed - a .offsets) < 2 ^ 64
 
--- an asset's entries: its cell, what there is of it, and half of that or all
-pub record Settled (place cell rest half : ℕ) (caps₀ rests₀ cells₀ caps rests cells : List ℕ) : Type 0 where
-  pub of-cap : caps ≡ set caps₀ place (rest / 2 ^ half)
+-- an asset's entries: its cell, what there is of it, and whose half it draws on
+pub record Settled (place cell rest on : ℕ) (draws₀ rests₀ cells₀ draws rests cells : List ℕ) : Type 0 where
+  pub of-draw : draws ≡ set draws₀ place on
   pub of-rest : rests ≡ set rests₀ place rest
   pub of-cell : cells ≡ set cells₀ place cell
 
 -- an asset whose fields are known, sums that it fits into, and tables with its place
-pub record Enters (a : Asset) (place row : ℕ) (v : Values) (caps rests cells : List ℕ) : Type 0 where
+pub record Enters (a : Asset) (place row : ℕ) (v : Values) (draws halves rests cells : List ℕ) : Type 0 where
   pub low : 0 < a .kind
   pub kind : a .kind < 12
   pub entry : a .entry ≤ 3
@@ -92,12 +93,15 @@ pub record Enters (a : Asset) (place row : ℕ) (v : Values) (caps rests cells :
   pub netted : v .netted + ofReinsurance (λ x. x .offsets) a < 2 ^ 64
   pub stressed : v .stressed + ofReinsurance lessNetted a < 2 ^ 64
   pub of-row : row ≤ 65000
-  pub of-caps : place < length caps
+  pub of-draws : place < length draws
+  pub of-halves : a .counterparty < length halves
+  pub of-net : getD halves (a .counterparty) 0 + net a < 2 ^ 64
   pub of-rests : place < length rests
   pub of-cells : place < length cells
 
-pub record Entered (a : Asset) (place row word terms : ℕ) (v : Values) (caps₀ rests₀ cells₀ caps rests cells : List ℕ) (r : Values) : Type 0 where
-  pub of-cap : caps ≡ set caps₀ place (capIn a terms)
+pub record Entered (a : Asset) (place row word terms : ℕ) (v : Values) (draws₀ halves₀ rests₀ cells₀ draws halves rests cells : List ℕ) (r : Values) : Type 0 where
+  pub of-draw : draws ≡ set draws₀ place (drawnIn a terms)
+  pub of-half : halves ≡ plus halves₀ a
   pub of-rest : rests ≡ set rests₀ place (restOf a)
   pub of-cell : cells ≡ set cells₀ place (row + columnIn a word terms)
   pub sums : r ≡ with-asset v a

@@ -1,11 +1,11 @@
-// The pass over the assets, by place: what there is of each to be covered or left, what may be covered, where its remainder is posted and where its mitigants
-// start; and the sums of the fund's values.
+// The pass over the assets, by place: what there is of each to be covered or left, whose half it draws on, where its remainder is posted and where its mitigants
+// start; by counterparty: the half of its reinsurance (C-18); and the sums of the fund's values.
 use book::Asset;
 use book::Assets;
 ghost use mathlib.Core.Path.{_≡_};
-ghost use Prim.Native.Nat.{_+_, _*_, _-_, _^_, _≤_, _<_};
+ghost use Prim.Native.Nat.{_+_, _*_, _-_, _/_, _%_, _^_, _≤_, _<_};
 ghost use lib.ListN.{length};
-ghost use Rattle.words.specs.Words.{if_then_else_};
+ghost use Rattle.words.specs.Words.{_=?_, if_then_else_};
 ghost use Rattle.wire.specs.Bytes.{M};
 ghost use Rattle.book.specs.Records.{mostAssets, N, assetsOf};
 ghost use Rattle.book.specs.Fields.{reinsurance};
@@ -14,6 +14,7 @@ ghost use Rattle.columns.specs.Column.{digit, ageOf};
 ghost use Rattle.parties.specs.Rows.{Parties};
 ghost use Rattle.assets.specs.Entered.{Shared, TreatyFits, withTreaty, withOther, Settled, Enters, Entered};
 ghost use Rattle.assets.specs.Assets.{Lent, Valued};
+ghost use Rattle.assets.specs.Halves.{Halved};
 
 // The sums over all assets: net, net of what is linked; over reinsurance: value, netted, and what each stressed value has above its netted.
 pub struct Values {
@@ -92,22 +93,29 @@ fn with_other(v: Values, s: Share) -> Values
     }
 }
 
-// An asset's entries in the tables: its cell, what there is of it, and half of that or all (half is 1 or 0).
+// An asset's entries in the tables: its cell, what there is of it, and whose half it draws on.
 fn settle(
     place: usize,
     cell: u16,
     rest: u64,
-    half: u64,
-    caps: &mut [u64],
+    on: u16,
+    draws: &mut [u16],
     rests: &mut [u64],
     cells: &mut [u16],
 )
-    requires { ⌜ (half ≤ 1) × (place < length (now caps)) × (place < length (now rests)) × (place < length (now cells)) ⌝ }
-    ensures { λ _. ⌜ Settled place cell rest half (now (caps .entry)) (now (rests .entry)) (now (cells .entry)) (now (caps .exit)) (now (rests .exit)) (now (cells .exit)) ⌝ }
+    requires { ⌜ (place < length (now draws)) × (place < length (now rests)) × (place < length (now cells)) ⌝ }
+    ensures { λ _. ⌜ Settled place cell rest on (now (draws .entry)) (now (rests .entry)) (now (cells .entry)) (now (draws .exit)) (now (rests .exit)) (now (cells .exit)) ⌝ }
 {
     cells[place] = cell;
     rests[place] = rest;
-    caps[place] = rest >> half;
+    draws[place] = on;
+}
+
+// Whose half a treaty draws on, by its counterparty's terms: its counterparty's, or nobody's, which is 0.
+fn treaty_draws(a: Asset, terms: u64) -> u16
+    ensures { λ r. ⌜ r ≡ (if terms / 2 ^ 60 % 2 =? 1 then a .counterparty else 0) ⌝ }
+{
+    choice::short(columns::half_of(terms) == 1, a.counterparty, 0)
 }
 
 // An asset of a counterparty with two such numbers and such a row: its entries, and the sums with it.
@@ -118,33 +126,28 @@ fn enter(
     word: u64,
     terms: u64,
     v: Values,
-    caps: &mut [u64],
+    draws: &mut [u16],
+    halves: &mut [u64],
     rests: &mut [u64],
     cells: &mut [u16],
 ) -> Values
-    requires { ⌜ Enters a place row v (now caps) (now rests) (now cells) ⌝ }
-    ensures { λ r. ⌜ Entered a place row word terms v (now (caps .entry)) (now (rests .entry)) (now (cells .entry)) (now (caps .exit)) (now (rests .exit)) (now (cells .exit)) r ⌝ }
+    requires { ⌜ Enters a place row v (now draws) (now halves) (now rests) (now cells) ⌝ }
+    ensures { λ r. ⌜ Entered a place row word terms v (now (draws .entry)) (now (halves .entry)) (now (rests .entry)) (now (cells .entry)) (now (draws .exit)) (now (halves .exit)) (now (rests .exit)) (now (cells .exit)) r ⌝ }
 {
     if book::is_reinsurance(a) {
         let stressed = exposure::stressed_of(a);
         let s = share_of(a, stressed);
         let sums = with_treaty(v, a, s, stressed);
         let cell = row + treaty_column(a, terms);
-        settle(
-            place,
-            cell,
-            s.rest,
-            columns::half_of(terms),
-            caps,
-            rests,
-            cells,
-        );
+        let on = treaty_draws(a, terms);
+        settle(place, cell, s.rest, on, draws, rests, cells);
+        halves[a.counterparty as usize] += s.rest;
         return sums;
     }
     let s = share_of(a, a.value);
     let sums = with_other(v, s);
     let cell = row + kind_column(a, word);
-    settle(place, cell, s.rest, 0, caps, rests, cells);
+    settle(place, cell, s.rest, 0, draws, rests, cells);
     sums
 }
 
@@ -157,7 +160,7 @@ fn mark_of(a: Asset, place: usize) -> u16
     (2 * place as u64 + more) as u16
 }
 
-// Every asset in book order.
+// Every asset in book order. What is left in `halves` are sums, not halved yet.
 pub fn fill(
     b: &[u8],
     assets: Assets,
@@ -166,12 +169,13 @@ pub fn fill(
     terms: &[u64],
     rows: &[u16],
     starts: &mut [u16],
-    caps: &mut [u64],
+    draws: &mut [u16],
+    halves: &mut [u64],
     rests: &mut [u64],
     cells: &mut [u16],
 ) -> Values
-    requires { ⌜ (Accepted (now b)) × (assets ≡ assetsOf (now b)) × (n ≡ N (now b)) × (Parties (now b) (now words) (now terms) (now rows)) × (Lent (now b) (now starts) (now caps) (now rests) (now cells)) ⌝ }
-    ensures { λ r. ⌜ Valued (now (b .entry)) (now (starts .entry)) (now (caps .entry)) (now (rests .entry)) (now (cells .entry)) (now (starts .exit)) (now (caps .exit)) (now (rests .exit)) (now (cells .exit)) r ⌝ }
+    requires { ⌜ (Accepted (now b)) × (assets ≡ assetsOf (now b)) × (n ≡ N (now b)) × (Parties (now b) (now words) (now terms) (now rows)) × (Lent (now b) (now starts) (now draws) (now halves) (now rests) (now cells)) ⌝ }
+    ensures { λ r. ⌜ Valued (now (b .entry)) (now (starts .entry)) (now (draws .entry)) (now (halves .entry)) (now (rests .entry)) (now (cells .entry)) (now (starts .exit)) (now (draws .exit)) (now (halves .exit)) (now (rests .exit)) (now (cells .exit)) r ⌝ }
 {
     let mut v = Values {
         all: 0,
@@ -192,7 +196,8 @@ pub fn fill(
             words[who],
             terms[who],
             v,
-            caps,
+            draws,
+            halves,
             rests,
             cells,
         );
@@ -201,4 +206,15 @@ pub fn fill(
         place += 1;
     }
     v
+}
+
+// Every entry of a table halved.
+pub fn halve(sums: &mut [u64])
+    ensures { λ _. ⌜ Halved (now (sums .entry)) (now (sums .exit)) ⌝ }
+{
+    let mut place = 0;
+    while place < sums.len() {
+        sums[place] /= 2;
+        place += 1;
+    }
 }

@@ -33,7 +33,7 @@ use Rattle.exposure.specs.declared.Exposure.{Exposure}
 use Rattle.exposure.specs.Values.{fundCheck}
 use Rattle.cells.specs.CellLaws.{Inside}
 use Rattle.parties.specs.Rows.{topsTo}
-use Rattle.covering.specs.ByPlace.{PartedFrom}
+use Rattle.covering.specs.ByPlace.{PartedBook}
 use Rattle.fund.specs.declared.Fund as made
 use Rattle.fund.specs.Fund.{Passed}
 use Rattle.fund.specs.Tables.{FundTables}
@@ -94,7 +94,7 @@ module _ (schedule b : List ℕ) (acc : Accepted b) (byte : (k : ℕ) → getD b
 
   -- ---- the tables
 
-  module _ (covered rests : List ℕ) (parts : PartedFrom b covered rests 1 1 (N b)) (stood : List ℕ) (stands : (y : ExposureLine) → InBook b y → standsIn (fundIn schedule b) (y .group) (y .tier) ≡ getD stood (lineCell b y) 0)
+  module _ (covered rests : List ℕ) (parts : PartedBook b covered rests) (stood : List ℕ) (stands : (y : ExposureLine) → InBook b y → standsIn (fundIn schedule b) (y .group) (y .tier) ≡ getD stood (lineCell b y) 0)
       (room : (y : ExposureLine) → InBook b y → lineCell b y < length stood) (desks : List ℕ) (e : desks ≡ set (replicate deskCount 0) 0 (fundIn schedule b .a3Sum - fundIn schedule b .a3Limit)) where
     abbrev xs : List ExposureLine
     xs = linesAt b covered rests 1 1 (N b)

@@ -14,7 +14,7 @@ use Rattle.bills.specs.Bills.{deskCount, billsSize, amountOfDesk, deskExcess, c
 use Rattle.report.specs.Answer.{fundIn, reportOf, writtenBy}
 use Rattle.desks.specs.BookLines.{lineOf, holdingLines, bookLines}
 use Rattle.billing.specs.Billed.{linesOf, excessIn, billsOf, billCheck, billAnswer}
-use Rattle.cases.specs.Build.{plain, usual, name, gradedName}
+use Rattle.cases.specs.Build.{plain, usual, name, gradedName, bank}
 use Rattle.cases.specs.Reading.{amountsIn}
 use Rattle.cases.specs.Table.{publishedBytes, same, accepted, turned}
 use Rattle.cases.specs.Opened.{reportComputed}
@@ -120,6 +120,12 @@ ends = deskBytes 40 0 0 (name ∷ []) (plainAt 255 11 1 8 ∷ plainAt 0 11 1 15 
 abbrev near : List ℕ
 near = deskBytes 4001 0 1 (name ∷ []) (plainAt 1 11 1 80 ∷ reinsuredAt 2 1 90 ∷ []) []
 
+-- treaties of 600,000,000 and 500,000,000 with one reinsurer, at desks 1 and 2, and a letter for the first: half of both is 550,000,000
+abbrev treaties : List ℕ
+treaties =
+    usualAt (gradedName ∷ bank ∷ []) (deskAsset 1 9 0 0 0 1 1 600000000 0 0 0 600000000 ∷ reinsuredAt 2 1 500000000 ∷ [])
+    (mitigant 5 8 2 600000000 ∷ [])
+
 unfoldable bills : List Bool
 bills =
     -- "what stands is given to the exposure lines in book order", "A line's unserved part is its excess": the first line is whole, of the second 150,000,000 stand.
@@ -132,6 +138,9 @@ bills =
     -- C-17: tier 1 ranks first, and stands. By limits in cents desk 2 would have the excess
     ∷ owed near (70 ∷ 0 ∷ []) (desk 1 70 none)
     ∷ billed near 1000 (desk 1 7 none)
+    -- C-18: 550,000,000 are covered, so that 50,000,000 and 500,000,000 stand in tier 3. By half of each treaty desk 2 would have 300,000,000
+    ∷ owed treaties (0 ∷ 0 ∷ 50000000 ∷ []) (desk 2 50000000 none)
+    ∷ billed treaties 1000 (desk 2 5000000 none)
     -- "goes to desk 0, as does every line of a version 1 book"
     ∷ owed cutBefore (0 ∷ 50000000 ∷ 30000000 ∷ []) (desk 0 80000000 none)
     ∷ billed cutBefore 1000 (desk 0 8000000 none)

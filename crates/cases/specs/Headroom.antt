@@ -9,7 +9,7 @@ use Rattle.words.specs.Below.{allBelow}
 use Rattle.wire.specs.Bytes.{M, bytes16, placed}
 use Rattle.wire.specs.Amounts.{amountsBytes}
 use Rattle.refusal.specs.declared.Answer.{Answer}
-use Rattle.book.specs.Build.{counterparty, bookBytes}
+use Rattle.book.specs.Build.{counterparty, mitigant, bookBytes}
 use Rattle.cascade.specs.Cut.{stands}
 use Rattle.figures.specs.Report.{charge}
 use Rattle.headroom.specs.Headroom.{withMore, leastOf, roomIn}
@@ -94,6 +94,10 @@ t8 = usual (gradedName ∷ gradedName ∷ gradedName ∷ name ∷ []) (reinsured
 abbrev retroceded : List ℕ
 retroceded = specialist (name ∷ []) (entered 3 12 1 1600000000 ∷ []) []
 
+-- treaties of 300,000,000 and 100,000,000 with one reinsurer and a letter for the first: half of both is 200,000,000, and as much is left in tier 3
+abbrev treaties : List ℕ
+treaties = usual (gradedName ∷ bank ∷ []) (reinsured 1 1 300000000 ∷ reinsured 1 0 100000000 ∷ []) (mitigant 5 8 2 300000000 ∷ [])
+
 -- row d's rate in the published schedule
 abbrev withD : ℕ → List ℕ
 withD rate = placed publishedBytes 24 (bytes16 rate)
@@ -129,6 +133,8 @@ answers =
     ∷ tells t8 (ask 1 6 ∷ ask 2 11 ∷ ask 4 11 ∷ []) (0 ∷ 0 ∷ 250000000 ∷ [])
     -- C-11's tiers above tier 2
     ∷ tells retroceded (ask 1 8 ∷ ask 1 11 ∷ []) (100000000 ∷ 100000000 ∷ [])
+    -- C-18: by half of each treaty kind 6 would have 250,000,000, and the bank's kind 3 2,350,000,000
+    ∷ tells treaties (ask 1 6 ∷ ask 1 11 ∷ ask 2 3 ∷ []) (300000000 ∷ 250000000 ∷ 2300000000 ∷ [])
     -- each kind with a bank; a question asked twice is answered twice
     ∷ tells (usual (bank ∷ []) [] []) (ask 1 3 ∷ ask 1 4 ∷ ask 1 5 ∷ ask 1 7 ∷ ask 1 10 ∷ ask 1 4 ∷ []) (2500000000 ∷ 5000000000 ∷ 500000000 ∷ 500000000 ∷ 500000000 ∷ 5000000000 ∷ [])
     -- "up to M": a limit of 1.5 M, one of M, and that with a cent in it

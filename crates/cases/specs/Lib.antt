@@ -7,6 +7,7 @@ pub mod Turned
 pub mod Tiers
 pub mod Values
 pub mod Mitigants
+pub mod Halves
 pub mod Limits
 pub mod Rates
 pub mod Cascade

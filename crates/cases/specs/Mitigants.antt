@@ -147,14 +147,14 @@ amounts =
     (usual (name ∷ bank ∷ []) (asset 11 0 0 0 1 4 130 20 10 0 0 ∷ [])
     (mitigant 1 17 2 60 ∷ mitigant 1 0 2 70 ∷ mitigant 4 4 2 60 ∷ mitigant 1 17 2 10 ∷ []))
     (part 2 4 12 60 ++ part 2 3 11 40)
-    -- "or at net/2 rounded down for each reinsurance asset whose counterparty is neither of kind 4 nor an approved affiliate"
+    -- C-18: "The half (..) rounded down once", of "each reinsurance asset whose counterparty is neither of kind 4 nor an approved affiliate"
     ∷ parted (letters name) (part 2 3 11 30 ++ part 2 3 11 20 ++ part 1 9 1 51)
     ∷ parted (letters affiliate) (part 2 3 11 30 ++ part 2 3 11 30 ++ part 1 9 1 41)
     ∷ parted (letters registered) (part 2 3 11 30 ++ part 2 3 11 30 ++ part 1 9 1 41)
-    -- "for each reinsurance asset"; and each its own mitigants, "in asset order"
+    -- each its own mitigants, "in asset order"; two treaties share a half of 101
     ∷ parted
     (usual (name ∷ bank ∷ []) (reinsured 1 1 101 ∷ reinsured 1 1 101 ∷ []) (mitigant 5 8 2 40 ∷ mitigant 1 18 2 60 ∷ []))
-    (part 2 3 11 40 ++ part 1 9 1 61 ++ part 2 4 12 50 ++ part 1 9 1 51)
+    (part 2 3 11 40 ++ part 1 9 1 61 ++ part 2 4 12 60 ++ part 1 9 1 41)
     -- "a remainder goes by its asset's own counterparty, kind, entry and months", and a covered part by none of its asset's
     ∷ parted (usual (affiliate ∷ bank ∷ []) (asset 9 0 2 3 1 1 100 0 0 0 100 ∷ []) (mitigant 1 17 2 60 ∷ [])) (part 2 4 12 60 ++ part 1 9 5 40)
     ∷ []

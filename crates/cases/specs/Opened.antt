@@ -8,7 +8,7 @@ use Rattle.schedule.specs.Check.{rowFits, ratesFit, fieldsCheck, scheduleCheck}
 use Rattle.schedule.specs.Tiers.{unroundedIn, limitsIn, a3LimitIn}
 use Rattle.book.specs.Build.{bookComputed}
 use Rattle.exposure.specs.Values.{stressed, net, overReinsurance, VAF, beforeExcluded, VAF′, fundCheck}
-use Rattle.exposure.specs.Parts.{goodCollateral, goodGuarantee, recognised, covers, coveredKind, halfCovered, mayBeCovered, coveredPart, remainder, partsOf, exposuresOf, exposures}
+use Rattle.exposure.specs.Parts.{goodCollateral, goodGuarantee, recognised, covers, coveredKind, halfCovered, treatyNet, halfOf, mayBeCovered, coveredBy, coveredOf, drawnBy, leftAfter, coveredPart, remainder, partsOf, exposuresOf, eachDrawing, exposures}
 use Rattle.exposure.specs.Tier.{gradedTier, ungradedTier, reinsuranceTier, lowerTier, tierBy, tierOf}
 use Rattle.exposure.specs.Sums.{amountOf, exposureOf, a3ExposureOf, W, allNet, linkedNet, unlimited}
 use Rattle.cascade.specs.Cascade.{ranks, insert, ranked, next, standing, left, excess, excessSum}
@@ -20,5 +20,5 @@ use Rattle.report.specs.Answer.{fundIn, reportOf, checkOf, answerOf}
 
 -- the report, with every definition on the way opened: a proof that says `unfolding reportComputed` computes it
 unfoldable pub reportComputed : List ℕ → List ℕ → List ℕ
-unfolding sumOf sum eachOf countFrom every greatest unrounded limitOf rowAt writtenOf scheduleOf rowBytes scheduleHead scheduleBytes rowFits ratesFit fieldsCheck scheduleCheck unroundedIn limitsIn a3LimitIn bookComputed stressed net overReinsurance VAF beforeExcluded VAF′ fundCheck goodCollateral goodGuarantee recognised covers coveredKind halfCovered mayBeCovered coveredPart remainder partsOf exposuresOf exposures gradedTier ungradedTier reinsuranceTier lowerTier tierBy tierOf amountOf exposureOf a3ExposureOf W allNet linkedNet unlimited ranks insert ranked next standing left excess excessSum a3Part a3SumOf tierSet lineOf cellLines groupExcess charge lineBytes headBytes headOf report lineFrom unroundedOf limitsOf a3Sum a3Limit fundOf fundIn reportOf checkOf answerOf
+unfolding sumOf sum eachOf countFrom every greatest unrounded limitOf rowAt writtenOf scheduleOf rowBytes scheduleHead scheduleBytes rowFits ratesFit fieldsCheck scheduleCheck unroundedIn limitsIn a3LimitIn bookComputed stressed net overReinsurance VAF beforeExcluded VAF′ fundCheck goodCollateral goodGuarantee recognised covers coveredKind halfCovered treatyNet halfOf mayBeCovered coveredBy coveredOf drawnBy leftAfter coveredPart remainder partsOf exposuresOf eachDrawing exposures gradedTier ungradedTier reinsuranceTier lowerTier tierBy tierOf amountOf exposureOf a3ExposureOf W allNet linkedNet unlimited ranks insert ranked next standing left excess excessSum a3Part a3SumOf tierSet lineOf cellLines groupExcess charge lineBytes headBytes headOf report lineFrom unroundedOf limitsOf a3Sum a3Limit fundOf fundIn reportOf checkOf answerOf
 reportComputed s b = reportOf s b

@@ -63,8 +63,8 @@ placed b places₀ h e = record {
   each = λ p l g. rw e (filled-at (restCell b) (N b) places₀ h p l g);
 }
 
-pub tabled : {b covered₀ caps₀ rests₀ covered caps rests : List ℕ} → Accepted b → K b < length covered₀ → N b < length rests₀
-    → ((p : ℕ) → 0 < p → p ≤ N b → getD rests₀ p 0 ≡ restOf (assetAt b p)) → Covers b covered₀ caps₀ rests₀ covered caps rests → Tabled b covered rests
+pub tabled : {b covered₀ halves₀ rests₀ covered halves rests : List ℕ} → Accepted b → K b < length covered₀ → N b < length rests₀
+    → ((p : ℕ) → 0 < p → p ≤ N b → getD rests₀ p 0 ≡ restOf (assetAt b p)) → Covers b covered₀ halves₀ rests₀ covered halves rests → Tabled b covered rests
 tabled acc lc lr nets c = record {
   covered-size = rw (c .parts, length-sets) lc;
   rests-size = rw (c .remainders, length-sets) lr;

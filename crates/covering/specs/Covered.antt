@@ -1,42 +1,41 @@
--- What the mitigants of a book cover, in book order, and what they leave of its assets.
---   coveredBy coveredOf    what each of an asset's mitigants covers
---   together drawnBy       what they cover together
---   leftFrom               a table's entry for each asset, less what its mitigants cover
+-- What the mitigants of a book cover, in book order, and what they leave of its assets and of the halves (C-18).
+--   stillOf drawnOff       what may still be covered, and a part off a half, where `on` is whose half is drawn on, 0 for nobody's
+--   byPlace                a table as the function of the place
+--   restsFrom              a table's entry for each asset, less what its mitigants cover
+--   halvesAfter            the table of halves behind some holdings
 --   heldBy holdingAt       how many mitigants holdings have; the holding at a place, whose first mitigant is the one at `first`
---   mitigants-length covered-length covered-size left-size    laws: how many mitigants are read; a number for each mitigant, a number for each asset
+--   mitigants-length covered-length covered-size rests-size    laws: how many mitigants are read; a number for each mitigant, a number for each asset
 use mathlib.Core.List.{List, [], _∷_}
 use mathlib.Core.Path.{_≡_, refl, ap, _∙_}
-use Prim.Native.Nat.{ℕ, zero, suc, _+_, _-_}
+use Prim.Native.Nat.{ℕ, zero, suc, _+_, _-_, min}
 use native.Mathlib.Omega.{arith}
-use lib.ListN.{length, getD, length-append}
-use Rattle.words.specs.Words.{sumOf, eachOf}
+use lib.ListN.{length, getD, set, length-append}
+use Rattle.words.specs.Words.{_=?_, if_then_else_, sumOf}
 use Rattle.book.specs.declared.Counterparty.{Counterparty}
 use Rattle.book.specs.declared.Asset.{Asset}
 use Rattle.book.specs.declared.Mitigant.{Mitigant}
 use Rattle.book.specs.Records.{assetAt}
 use Rattle.book.specs.Book.{Holding, mitigantsFrom, holdingsFrom}
-use Rattle.exposure.specs.Parts.{covers}
-use Rattle.assets.specs.Shares.{capOf}
+use Rattle.exposure.specs.Parts.{coveredBy, coveredOf, drawnBy, leftAfter, eachDrawing}
+use Rattle.assets.specs.Shares.{drawsOn}
 
--- "recognised mitigants are taken in order, each covering the lesser of its value and what may still be covered"
-unfoldable pub coveredBy : (ℕ → Counterparty) → Asset → List Mitigant → ℕ → List ℕ
-coveredBy cs a [] still = []
-coveredBy cs a (m ∷ ms) still =
-    let part = covers a m (cs (m .counterparty)) still in
-    part ∷ coveredBy cs a ms (still - part)
+-- of an asset of which `rest` is left, and of a half `half`
+unfoldable pub stillOf : ℕ → ℕ → ℕ → ℕ
+stillOf on rest half = if on =? 0 then rest else min rest half
 
-unfoldable pub coveredOf : (ℕ → Counterparty) → Holding → List ℕ
-coveredOf cs h = coveredBy cs (h .asset) (h .mitigants) (capOf cs (h .asset))
+unfoldable pub drawnOff : ℕ → ℕ → List ℕ → List ℕ
+drawnOff on part t = if on =? 0 then t else set t on (getD t on 0 - part)
 
-abbrev pub together : List ℕ → ℕ
-together xs = sumOf (λ n. n) xs
+abbrev pub byPlace : List ℕ → ℕ → ℕ
+byPlace t place = getD t place 0
 
-unfoldable pub drawnBy : (ℕ → Counterparty) → Holding → ℕ
-drawnBy cs h = together (coveredOf cs h)
+unfoldable pub restsFrom : (ℕ → Counterparty) → (ℕ → ℕ) → List ℕ → ℕ → List Holding → List ℕ
+restsFrom cs left t place [] = []
+restsFrom cs left t place (h ∷ hs) = (getD t place 0 - drawnBy cs left h) ∷ restsFrom cs (leftAfter cs left h) t (place + 1) hs
 
-unfoldable pub leftFrom : (ℕ → Counterparty) → List ℕ → ℕ → List Holding → List ℕ
-leftFrom cs t place [] = []
-leftFrom cs t place (h ∷ hs) = (getD t place 0 - drawnBy cs h) ∷ leftFrom cs t (place + 1) hs
+unfoldable pub halvesAfter : (ℕ → Counterparty) → List ℕ → List Holding → List ℕ
+halvesAfter cs t [] = t
+halvesAfter cs t (h ∷ hs) = halvesAfter cs (drawnOff (drawsOn cs (h .asset)) (drawnBy cs (byPlace t) h) t) hs
 
 abbrev pub heldBy : List Holding → ℕ
 heldBy hs = sumOf (λ (h : Holding). h .asset .count) hs
@@ -55,19 +54,22 @@ mitigants-length b zero first = refl
 mitigants-length b (suc count) first = ap suc (mitigants-length b count (first + 1))
 
 module _ (cs : ℕ → Counterparty) (b : List ℕ) where
-  pub covered-length : (place first : ℕ) → length (coveredOf cs (holdingAt b place first)) ≡ assetAt b place .count
+  pub covered-length : (left : ℕ → ℕ) (place first : ℕ) → length (coveredOf cs left (holdingAt b place first)) ≡ assetAt b place .count
   unfolding coveredOf
-  covered-length place first =
+  covered-length left place first =
       covered-by-length cs (assetAt b place) (mitigantsFrom b first (assetAt b place .count)) _ ∙ mitigants-length b (assetAt b place .count) first
 
-  pub covered-size : (more place first : ℕ) → length (eachOf (coveredOf cs) (holdingsFrom b place first more)) ≡ heldBy (holdingsFrom b place first more)
-  unfolding holdingsFrom eachOf sumOf
-  covered-size zero place first = refl
-  covered-size (suc more) place first =
-      length-append (coveredOf cs (holdingAt b place first)) (eachOf (coveredOf cs) (holdingsFrom b (place + 1) (first + assetAt b place .count) more))
-      ∙ omega (arith, covered-length place first, covered-size more (place + 1) (first + assetAt b place .count))
+  pub covered-size : (left : ℕ → ℕ) (more place first : ℕ) → length (eachDrawing cs (coveredOf cs) left (holdingsFrom b place first more)) ≡ heldBy (holdingsFrom b place first more)
+  unfolding holdingsFrom eachDrawing sumOf
+  covered-size left zero place first = refl
+  covered-size left (suc more) place first =
+      let h = holdingAt b place first in
+      let next = leftAfter cs left h in
+      let later = first + assetAt b place .count in
+      length-append (coveredOf cs left h) (eachDrawing cs (coveredOf cs) next (holdingsFrom b (place + 1) later more))
+      ∙ omega (arith, covered-length left place first, covered-size next more (place + 1) later)
 
-  pub left-size : (t : List ℕ) (more place first : ℕ) → length (leftFrom cs t place (holdingsFrom b place first more)) ≡ more
-  unfolding holdingsFrom leftFrom
-  left-size t zero place first = refl
-  left-size t (suc more) place first = ap suc (left-size t more (place + 1) (first + assetAt b place .count))
+  pub rests-size : (left : ℕ → ℕ) (t : List ℕ) (more place first : ℕ) → length (restsFrom cs left t place (holdingsFrom b place first more)) ≡ more
+  unfolding holdingsFrom restsFrom
+  rests-size left t zero place first = refl
+  rests-size left t (suc more) place first = ap suc (rests-size (leftAfter cs left (holdingAt b place first)) t more (place + 1) (first + assetAt b place .count))

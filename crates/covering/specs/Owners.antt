@@ -53,18 +53,19 @@ owner-next t (suc p) l = let d : suc p - 1 ≡ p = omega arith in rw d
 
 -- the owner of a mitigant, where `end` is the first place behind the assets
 pub record OwnerFits (b : List ℕ) (end mark : ℕ) : Type 0 where
+  pub above : 0 < mark / 2
   pub below : mark / 2 < end
   pub whole : mark ≡ markOf b (mark / 2)
 
-fits-mark : (b : List ℕ) (place end mark : ℕ) → mark ≡ markOf b place → place < end → OwnerFits b end mark
-fits-mark b place end mark e l =
+fits-mark : (b : List ℕ) (place end mark : ℕ) → mark ≡ markOf b place → 0 < place → place < end → OwnerFits b end mark
+fits-mark b place end mark e o l =
     let d : mark / 2 ≡ place = rw e (mark-half b place) in
-    record { below = omega arith; whole = rw d e }
+    record { above = omega arith; below = omega arith; whole = rw d e }
 
-pub inside : (owner : ℕ → ℕ) (b : List ℕ) (more place first m : ℕ) → Owned owner b place first more → first ≤ m → m < first + heldBy (holdingsFrom b place first more) → OwnerFits b (place + more) (owner m)
+pub inside : (owner : ℕ → ℕ) (b : List ℕ) (more place first m : ℕ) → 0 < place → Owned owner b place first more → first ≤ m → m < first + heldBy (holdingsFrom b place first more) → OwnerFits b (place + more) (owner m)
 unfolding Owned holdingsFrom sumOf
-inside owner b zero place first m o l h = absurd (omega arith)
-inside owner b (suc more) place first m o l h = by (ltb m next) refl (λ g. inside owner b more (place + 1) next m (o .1) g (omega arith))
+inside owner b zero place first m p o l h = absurd (omega arith)
+inside owner b (suc more) place first m p o l h = by (ltb m next) refl (λ g. inside owner b more (place + 1) next m (omega arith) (o .1) g (omega arith))
   where
     next : ℕ
     next = first + assetAt b place .count
@@ -72,7 +73,7 @@ inside owner b (suc more) place first m o l h = by (ltb m next) refl (λ g. insi
     by : (s : Bool) → ltb m next ≡ s → (next ≤ m → OwnerFits b (place + 1 + more) (owner m)) → OwnerFits b (place + suc more) (owner m)
     by true z ih =
         let lt = ltb-true m next z in
-        fits-mark b place (place + suc more) (owner m) (ap owner (omega arith) ∙ o .0 (m - first) (omega arith)) (omega arith)
+        fits-mark b place (place + suc more) (owner m) (ap owner (omega arith) ∙ o .0 (m - first) (omega arith)) p (omega arith)
     by false z ih =
         let d : place + suc more ≡ place + 1 + more = omega arith in
         rw d (ih (ltb-false m next z))

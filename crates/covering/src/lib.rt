@@ -9,6 +9,7 @@ ghost use Rattle.book.specs.Records.{K, mitigantsStart, counterpartyAt, mitigan
 ghost use Rattle.book.specs.Fields.{reinsurance};
 ghost use Rattle.book.specs.Accepted.{Accepted};
 ghost use Rattle.exposure.specs.Parts.{covers};
+ghost use Rattle.covering.specs.Covered.{stillOf, drawnOff};
 ghost use Rattle.covering.specs.Pass.{Known, Ready, Covers};
 
 // 2^63, above any amount.
@@ -58,29 +59,49 @@ fn owner_at(starts: &[u16], place: usize, own: u64) -> u64
     choice::greater(own, wide(starts[place]))
 }
 
-// Every mitigant in book order: what it covers, taken off what may be covered of its asset and off what is left of it.
+// What may still be covered of an asset of which `rest` is left: that, and of one that draws on a half no more than is left of it.
+fn still_of(on: usize, rest: u64, half: u64) -> u64
+    ensures { λ r. ⌜ r ≡ stillOf on rest half ⌝ }
+{
+    choice::amount(on == 0, rest, choice::lesser(rest, half))
+}
+
+// A part that is covered, off the half that it is drawn on. A branch: where nobody's half is drawn on, no entry waits for the one before.
+fn draw(on: usize, part: u64, halves: &mut [u64])
+    requires { ⌜ (on < length (now halves)) × (0 < on → part ≤ getD (now halves) on 0) ⌝ }
+    ensures { λ _. ⌜ now (halves .exit) ≡ drawnOff on part (now (halves .entry)) ⌝ }
+{
+    if on != 0 {
+        halves[on] -= part;
+    }
+}
+
+// Every mitigant in book order: what it covers, taken off what is left of its asset and off the half that its asset draws on.
 pub fn cover(
     b: &[u8],
     start: usize,
     k: usize,
     terms: &[u64],
     starts: &[u16],
-    caps: &mut [u64],
+    draws: &[u16],
+    halves: &mut [u64],
     rests: &mut [u64],
     covered: &mut [u64],
 )
-    requires { ⌜ (Accepted (now b)) × (start ≡ mitigantsStart (now b)) × (k ≡ K (now b)) × (Known (now b) (now terms)) × (Ready (now b) (now starts) (now caps) (now rests)) × (k < length (now covered)) ⌝ }
-    ensures { λ r. ⌜ Covers (now (b .entry)) (now (covered .entry)) (now (caps .entry)) (now (rests .entry)) (now (covered .exit)) (now (caps .exit)) (now (rests .exit)) ⌝ }
+    requires { ⌜ (Accepted (now b)) × (start ≡ mitigantsStart (now b)) × (k ≡ K (now b)) × (Known (now b) (now terms)) × (Ready (now b) (now starts) (now draws) (now halves) (now rests)) × (k < length (now covered)) ⌝ }
+    ensures { λ r. ⌜ Covers (now (b .entry)) (now (covered .entry)) (now (halves .entry)) (now (rests .entry)) (now (covered .exit)) (now (halves .exit)) (now (rests .exit)) ⌝ }
 {
     let mut own = 0;
     let mut place = 1;
     while place <= k {
         own = owner_at(starts, place, own);
         let from = (own / 2) as usize;
-        let still = caps[from];
+        let on = draws[from] as usize;
+        let rest = rests[from];
+        let still = still_of(on, rest, halves[on]);
         let part = part_at(b, start, place, own % 2, terms, still);
-        caps[from] = still - part;
-        rests[from] -= part;
+        draw(on, part, halves);
+        rests[from] = rest - part;
         covered[place] = part;
         place += 1;
     }

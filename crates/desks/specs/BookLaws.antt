@@ -3,14 +3,14 @@
 --   desk-few       a desk is a byte
 --   book-lines     an accepted book's lines are those of its fund
 use mathlib.Core.Bool.{Bool, true, false, _&&_}
-use mathlib.Core.List.{List, [], _∷_, _++_, map, map-append}
+use mathlib.Core.List.{List, [], _∷_, _++_, map-append}
 use mathlib.Core.Path.{_≡_, refl, sym, ap, _∙_}
 use Prim.Native.Nat.{ℕ, zero, suc, _+_, _-_, _≤_, _<_}
 use native.Mathlib.Omega.{arith}
 use lib.ListN.{getD}
-use Rattle.words.specs.Words.{_=?_, if_then_else_, sumOf, eachOf, All}
+use Rattle.words.specs.Words.{_=?_, if_then_else_, sumOf, All}
 use Rattle.words.specs.Choice.{by-test}
-use Rattle.words.specs.Sums.{sum-each, sum-each-same, sum-map, all-map, all-append, all-mapped}
+use Rattle.words.specs.Sums.{sum-map, all-map, all-append, all-mapped}
 use Rattle.cascade.specs.Cascade.{tiers}
 use Rattle.wire.specs.Bytes.{byteAt}
 use Rattle.figures.specs.Fund.{Fund}
@@ -23,19 +23,19 @@ use Rattle.book.specs.declared.Asset.{Asset}
 use Rattle.book.specs.declared.Mitigant.{Mitigant}
 use Rattle.book.specs.Records.{version, C, N, K, counterpartyAt, assetStart, assetAt, assetFrom}
 use Rattle.book.specs.Fields.{linked}
-use Rattle.book.specs.Book.{Book, Holding, bookOf, topOf, mitigantsFrom, holdingsFrom}
+use Rattle.book.specs.Book.{Book, bookOf, topOf, mitigantsFrom, holdingsFrom}
 use Rattle.book.specs.TopLaws.{top-le, top-pos}
 use Rattle.book.specs.Check.{countsAdd}
 use Rattle.book.specs.Accepted.{Accepted}
 use Rattle.exposure.specs.declared.Exposure.{Exposure}
 use Rattle.exposure.specs.Values.{net}
-use Rattle.exposure.specs.Parts.{covers, coveredPart, remainder, partsOf, mayBeCovered, exposuresOf, exposures}
-use Rattle.exposure.specs.PartLaws.{linked-none}
+use Rattle.exposure.specs.Parts.{covers, halfOf, mayBeCovered, leftAfter, coveredPart, remainder, partsOf, exposuresOf, eachDrawing, exposures}
+use Rattle.exposure.specs.PartLaws.{linked-none, drawing-sum}
 use Rattle.exposure.specs.Tier.{tierOf}
 use Rattle.exposure.specs.Sums.{amountOf, exposureOf}
 use Rattle.columns.specs.ColumnLaws.{tier-le}
 use Rattle.covering.specs.Covered.{heldBy, holdingAt}
-use Rattle.covering.specs.ByPlace.{partsAt, Parted, PartedFrom}
+use Rattle.covering.specs.ByPlace.{partsAt, Parted, PartedFrom, PartedBook}
 use Rattle.desks.specs.BookLines.{lineOf, holdingLines, bookLines}
 use Rattle.desks.specs.Pass.{partLines, restLine, assetLines, linesAt}
 
@@ -64,10 +64,10 @@ module _ (d : ℕ) where
     rest-none place z = z
 
     -- one asset: its lines as they are, or, where it is linked, none and lines without an amount
-    asset-excess : (place first : ℕ) (ys zs : List ExposureLine) → Parted b covered rests place first → ((s : ℕ → ℕ → ℕ) → excessFrom s ys ≡ excessFrom s zs)
-        → (s : ℕ → ℕ → ℕ) → excessFrom s (assetLines b covered rests place first ++ ys) ≡ excessFrom s (holdingLines cs (holdingAt b place first) ++ zs)
+    asset-excess : (left : ℕ → ℕ) (place first : ℕ) (ys zs : List ExposureLine) → Parted b covered rests left place first → ((s : ℕ → ℕ → ℕ) → excessFrom s ys ≡ excessFrom s zs)
+        → (s : ℕ → ℕ → ℕ) → excessFrom s (assetLines b covered rests place first ++ ys) ≡ excessFrom s (holdingLines cs left (holdingAt b place first) ++ zs)
     unfolding assetLines partLines holdingLines
-    asset-excess place first ys zs p h s = by (linked a) refl
+    asset-excess left place first ys zs p h s = by (linked a) refl
       where
         a : Asset
         a = assetAt b place
@@ -75,26 +75,27 @@ module _ (d : ℕ) where
         rest : Exposure
         rest = remainder a (getD rests place 0)
 
-        by : (t : Bool) → linked a ≡ t → excessFrom s (assetLines b covered rests place first ++ ys) ≡ excessFrom s (holdingLines cs (holdingAt b place first) ++ zs)
+        by : (t : Bool) → linked a ≡ t → excessFrom s (assetLines b covered rests place first ++ ys) ≡ excessFrom s (holdingLines cs left (holdingAt b place first) ++ zs)
         by true e =
             let n = p .none e in
             let zero-lines = all-append (λ (x : ExposureLine). x .amount ≡ 0) (partLines b covered (a .desk) first (a .count)) (restLine b rests place ∷ []) (lines-none (a .desk) first (a .count) (n .0)) (rest-none place (n .1), tt) in
-            excess-none d (assetLines b covered rests place first) ys zero-lines s ∙ h s ∙ rw (linked-none cs (holdingAt b place first) e)
+            excess-none d (assetLines b covered rests place first) ys zero-lines s ∙ h s ∙ rw (linked-none cs left (holdingAt b place first) e)
         by false e = rw (p .parts e, map-append (lineOf cs (a .desk)) (partsAt b covered first (a .count)) (rest ∷ [])) (behind-lines (assetLines b covered rests place first) ys zs h s)
 
-    lines-from : (more place first : ℕ) → PartedFrom b covered rests place first more
-        → (s : ℕ → ℕ → ℕ) → excessFrom s (linesAt b covered rests place first more) ≡ excessFrom s (eachOf (holdingLines cs) (holdingsFrom b place first more))
-    unfolding linesAt eachOf holdingsFrom
-    lines-from zero place first p s = refl
-    lines-from (suc more) place first p s =
+    lines-from : (left : ℕ → ℕ) (more place first : ℕ) → PartedFrom b covered rests left place first more
+        → (s : ℕ → ℕ → ℕ) → excessFrom s (linesAt b covered rests place first more) ≡ excessFrom s (eachDrawing cs (holdingLines cs) left (holdingsFrom b place first more))
+    unfolding linesAt eachDrawing holdingsFrom
+    lines-from left zero place first p s = refl
+    lines-from left (suc more) place first p s =
         let count = assetAt b place .count in
-        asset-excess place first (linesAt b covered rests (place + 1) (first + count) more) (eachOf (holdingLines cs) (holdingsFrom b (place + 1) (first + count) more)) (p .0)
-        (lines-from more (place + 1) (first + count) (p .1)) s
+        let next = leftAfter cs left (holdingAt b place first) in
+        asset-excess left place first (linesAt b covered rests (place + 1) (first + count) more) (eachDrawing cs (holdingLines cs) next (holdingsFrom b (place + 1) (first + count) more)) (p .0)
+        (lines-from next more (place + 1) (first + count) (p .1)) s
 
-    pub lines-excess : PartedFrom b covered rests 1 1 (N b) → (s : ℕ → ℕ → ℕ)
+    pub lines-excess : PartedBook b covered rests → (s : ℕ → ℕ → ℕ)
         → amountOfDesk d (excessLines s (linesAt b covered rests 1 1 (N b))) ≡ amountOfDesk d (excessLines s (bookLines (bookOf b)))
     unfolding bookLines bookOf
-    lines-excess p s = lines-from (N b) 1 1 p s
+    lines-excess p s = lines-from (halfOf (holdingsFrom b 1 1 (N b))) (N b) 1 1 p s
 
 -- ---- of the fund
 
@@ -105,10 +106,7 @@ line-amounts B g t =
     let cs = B .counterparty in
     let inTier : ExposureLine → ℕ = λ x. if x .group =? g && x .tier =? t then x .amount else 0 in
     let counts : Exposure → ℕ = λ x. if topOf cs (x .counterparty) =? g && tierOf cs x =? t then x .amount else 0 in
-    sum-each inTier (λ (h : Holding). map (lineOf cs (h .asset .desk)) (exposuresOf cs h)) (B .holdings)
-    ∙ sum-each-same (λ (h : Holding). sumOf inTier (map (lineOf cs (h .asset .desk)) (exposuresOf cs h))) (λ h. sumOf counts (exposuresOf cs h)) (B .holdings)
-    (λ h. sum-map inTier (lineOf cs (h .asset .desk)) (exposuresOf cs h))
-    ∙ sym (sum-each counts (exposuresOf cs) (B .holdings))
+    drawing-sum cs inTier counts (holdingLines cs) (exposuresOf cs) (λ left h. sum-map inTier (lineOf cs (h .asset .desk)) (exposuresOf cs left h)) (halfOf (B .holdings)) (B .holdings)
 
 -- every line is of a group of the book, a tier or no limit, and a desk
 module _ (b : List ℕ) (acc : Accepted b) (byte : (k : ℕ) → getD b k 0 < 256) where
@@ -149,31 +147,33 @@ module _ (b : List ℕ) (acc : Accepted b) (byte : (k : ℕ) → getD b k 0 < 25
     desk-few place,
   )
 
-  holding-inside : (F : Fund) → Kept F → (place first : ℕ) → 0 < place → place ≤ N b → 0 < first → first + assetAt b place .count ≤ K b + 1
-      → All (Inside F) (holdingLines (counterpartyAt b) (holdingAt b place first))
+  holding-inside : (F : Fund) → Kept F → (left : ℕ → ℕ) (place first : ℕ) → 0 < place → place ≤ N b → 0 < first → first + assetAt b place .count ≤ K b + 1
+      → All (Inside F) (holdingLines (counterpartyAt b) left (holdingAt b place first))
   unfolding holdingLines exposuresOf
-  holding-inside F k place first l h m c =
+  holding-inside F k left place first l h m c =
       let a = assetAt b place in
       let f = acc .asset place l h in
       let cs = counterpartyAt b in
-      let parts = partsOf cs a (mitigantsFrom b first (a .count)) (mayBeCovered cs a) (net a) in
+      let parts = partsOf cs a (mitigantsFrom b first (a .count)) (mayBeCovered cs left a) (net a) in
       all-mapped (Inside F) (lineOf cs (a .desk)) (if linked a then [] else parts)
       (all-map (line-inside F k place) (if linked a then [] else parts)
-      (by-test (All To) (linked a) [] parts (λ _. tt) (λ _. parts-to a (mitigantsFrom b first (a .count)) (mayBeCovered cs a) (net a) (f .low) (f .high) (mitigants-of (a .count) first m c))))
+      (by-test (All To) (linked a) [] parts (λ _. tt) (λ _. parts-to a (mitigantsFrom b first (a .count)) (mayBeCovered cs left a) (net a) (f .low) (f .high) (mitigants-of (a .count) first m c))))
 
-  holdings-inside : (F : Fund) → Kept F → (more place first : ℕ) → 0 < place → place + more ≤ N b + 1 → 0 < first → first + heldBy (holdingsFrom b place first more) ≤ K b + 1
-      → All (Inside F) (eachOf (holdingLines (counterpartyAt b)) (holdingsFrom b place first more))
-  unfolding holdingsFrom eachOf sumOf
-  holdings-inside F k zero place first l h m c = tt
-  holdings-inside F k (suc more) place first l h m c =
+  holdings-inside : (F : Fund) → Kept F → (left : ℕ → ℕ) (more place first : ℕ) → 0 < place → place + more ≤ N b + 1 → 0 < first → first + heldBy (holdingsFrom b place first more) ≤ K b + 1
+      → All (Inside F) (eachDrawing (counterpartyAt b) (holdingLines (counterpartyAt b)) left (holdingsFrom b place first more))
+  unfolding holdingsFrom eachDrawing sumOf
+  holdings-inside F k left zero place first l h m c = tt
+  holdings-inside F k left (suc more) place first l h m c =
+      let cs = counterpartyAt b in
       let count = assetAt b place .count in
-      all-append (Inside F) (holdingLines (counterpartyAt b) (holdingAt b place first)) (eachOf (holdingLines (counterpartyAt b)) (holdingsFrom b (place + 1) (first + count) more))
-      (holding-inside F k place first l (omega arith) m (omega arith))
-      (holdings-inside F k more (place + 1) (first + count) (omega arith) (omega arith) (omega arith) (omega arith))
+      let next = leftAfter cs left (holdingAt b place first) in
+      all-append (Inside F) (holdingLines cs left (holdingAt b place first)) (eachDrawing cs (holdingLines cs) next (holdingsFrom b (place + 1) (first + count) more))
+      (holding-inside F k left place first l (omega arith) m (omega arith))
+      (holdings-inside F k next more (place + 1) (first + count) (omega arith) (omega arith) (omega arith) (omega arith))
 
   pub book-lines : (F : Fund) → F .groups ≡ C b → F .tiers ≡ tiers → ((g t : ℕ) → F .exposure g t ≡ exposureOf (bookOf b) g t) → LinesOf F (bookLines (bookOf b))
   unfolding bookLines bookOf countsAdd
   book-lines F eg et ee = record {
-    inside = holdings-inside F (eg, et) (N b) 1 1 (omega arith) (omega arith) (omega arith) (omega (arith, acc .counted));
+    inside = holdings-inside F (eg, et) (halfOf (holdingsFrom b 1 1 (N b))) (N b) 1 1 (omega arith) (omega arith) (omega arith) (omega (arith, acc .counted));
     amounts = λ g t. line-amounts (bookOf b) g t ∙ sym (ee g t);
   }

@@ -24,18 +24,19 @@ zero-parties c n h =
     let l : c < length (replicate {A = ℕ} (n + 1) 0) = omega (arith, long (n + 1)) in
     record { words-size = l; terms-size = l; tops-size = l; rows-size = l; heads-size = l; nobody = at-zeros (n + 1) 0 }
 
--- for those over at most n assets and k mitigants
-pub zero-lent : (b : List ℕ) (n k : ℕ) → N b ≤ n → K b ≤ k → Lent b (replicate (k + 2) 0) (replicate (n + 1) 0) (replicate (n + 1) 0) (replicate (n + 1) 0) (replicate (k + 1) 0)
-zero-lent b n k h i =
+-- for those over at most n assets and k mitigants, with at most c counterparties
+pub zero-lent : (b : List ℕ) (c n k : ℕ) → C b ≤ c → N b ≤ n → K b ≤ k → Lent b (replicate (k + 2) 0) (replicate (n + 1) 0) (replicate (c + 1) 0) (replicate (n + 1) 0) (replicate (n + 1) 0) (replicate (k + 1) 0)
+zero-lent b c n k g h i =
     let l : N b < length (replicate {A = ℕ} (n + 1) 0) = omega (arith, long (n + 1)) in
     record {
       of-starts = omega (arith, long (k + 2));
-      of-caps = l;
+      of-draws = l;
+      of-halves = omega (arith, long (c + 1));
       of-rests = l;
       of-places = l;
       of-covered = omega (arith, long (k + 1));
       unmarked = at-zeros (k + 2);
-      uncovered = at-zeros (n + 1);
+      undrawn = at-zeros (c + 1);
     }
 
 -- for the cells and lines of at most g groups

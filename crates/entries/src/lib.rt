@@ -94,7 +94,8 @@ fn answer(
     rows: &[u16],
     heads: &[u16],
     starts: &mut [u16],
-    caps: &mut [u64],
+    draws: &mut [u16],
+    halves: &mut [u64],
     rests: &mut [u64],
     places: &mut [u16],
     covered: &mut [u64],
@@ -105,7 +106,7 @@ fn answer(
     asked: &[u8],
     lent: &mut [u8],
 ) -> Answer
-    requires { ⌜ (Passed (now schedule) (now book)) × (groups ≡ topsTo (now book) (C (now book))) × (Parties (now book) (now words) (now terms) (now rows)) × (Headed (now book) (now heads)) × (Lent (now book) (now starts) (now caps) (now rests) (now places) (now covered)) × (Zeros groups (now cells)) × (Room groups (now sets) (now list)) ⌝ }
+    requires { ⌜ (Passed (now schedule) (now book)) × (groups ≡ topsTo (now book) (C (now book))) × (Parties (now book) (now words) (now terms) (now rows)) × (Headed (now book) (now heads)) × (Lent (now book) (now starts) (now draws) (now halves) (now rests) (now places) (now covered)) × (Zeros groups (now cells)) × (Room groups (now sets) (now list)) ⌝ }
     ensures { λ r. ⌜ Promised wanted (now (schedule .entry)) (now (book .entry)) (now (asked .entry)) (now (lent .entry)) (now (lent .exit)) r ⌝ }
 {
     let f = fund::make(
@@ -116,7 +117,8 @@ fn answer(
         terms,
         rows,
         starts,
-        caps,
+        draws,
+        halves,
         rests,
         places,
         covered,
@@ -164,7 +166,8 @@ fn small(
     let mut rows = [0u16; SMALL + 1];
     let mut heads = [0u16; SMALL + 1];
     let mut starts = [0u16; 4 * SMALL + 2];
-    let mut caps = [0u64; 4 * SMALL + 1];
+    let mut draws = [0u16; 4 * SMALL + 1];
+    let mut halves = [0u64; SMALL + 1];
     let mut rests = [0u64; 4 * SMALL + 1];
     let mut places = [0u16; 4 * SMALL + 1];
     let mut covered = [0u64; 4 * SMALL + 1];
@@ -189,7 +192,8 @@ fn small(
         &rows,
         &heads,
         &mut starts,
-        &mut caps,
+        &mut draws,
+        &mut halves,
         &mut rests,
         &mut places,
         &mut covered,
@@ -220,7 +224,8 @@ fn medium(
     let mut rows = [0u16; MEDIUM + 1];
     let mut heads = [0u16; MEDIUM + 1];
     let mut starts = [0u16; 4 * MEDIUM + 2];
-    let mut caps = [0u64; 4 * MEDIUM + 1];
+    let mut draws = [0u16; 4 * MEDIUM + 1];
+    let mut halves = [0u64; MEDIUM + 1];
     let mut rests = [0u64; 4 * MEDIUM + 1];
     let mut places = [0u16; 4 * MEDIUM + 1];
     let mut covered = [0u64; 4 * MEDIUM + 1];
@@ -245,7 +250,8 @@ fn medium(
         &rows,
         &heads,
         &mut starts,
-        &mut caps,
+        &mut draws,
+        &mut halves,
         &mut rests,
         &mut places,
         &mut covered,
@@ -268,7 +274,8 @@ fn few(
     rows: &[u16],
     heads: &[u16],
     starts: &mut [u16],
-    caps: &mut [u64],
+    draws: &mut [u16],
+    halves: &mut [u64],
     rests: &mut [u64],
     places: &mut [u16],
     covered: &mut [u64],
@@ -276,7 +283,7 @@ fn few(
     asked: &[u8],
     lent: &mut [u8],
 ) -> Answer
-    requires { ⌜ (Passed (now schedule) (now book)) × (groups ≡ topsTo (now book) (C (now book))) × (Parties (now book) (now words) (now terms) (now rows)) × (Headed (now book) (now heads)) × (Lent (now book) (now starts) (now caps) (now rests) (now places) (now covered)) × (groups ≤ fewGroups) ⌝ }
+    requires { ⌜ (Passed (now schedule) (now book)) × (groups ≡ topsTo (now book) (C (now book))) × (Parties (now book) (now words) (now terms) (now rows)) × (Headed (now book) (now heads)) × (Lent (now book) (now starts) (now draws) (now halves) (now rests) (now places) (now covered)) × (groups ≤ fewGroups) ⌝ }
     ensures { λ r. ⌜ Promised wanted (now (schedule .entry)) (now (book .entry)) (now (asked .entry)) (now (lent .entry)) (now (lent .exit)) r ⌝ }
 {
     let mut cells = [0u64; COLUMNS * FEW];
@@ -291,7 +298,8 @@ fn few(
         rows,
         heads,
         starts,
-        caps,
+        draws,
+        halves,
         rests,
         places,
         covered,
@@ -314,7 +322,8 @@ fn many(
     rows: &[u16],
     heads: &[u16],
     starts: &mut [u16],
-    caps: &mut [u64],
+    draws: &mut [u16],
+    halves: &mut [u64],
     rests: &mut [u64],
     places: &mut [u16],
     covered: &mut [u64],
@@ -322,7 +331,7 @@ fn many(
     asked: &[u8],
     lent: &mut [u8],
 ) -> Answer
-    requires { ⌜ (Passed (now schedule) (now book)) × (groups ≡ topsTo (now book) (C (now book))) × (Parties (now book) (now words) (now terms) (now rows)) × (Headed (now book) (now heads)) × (Lent (now book) (now starts) (now caps) (now rests) (now places) (now covered)) ⌝ }
+    requires { ⌜ (Passed (now schedule) (now book)) × (groups ≡ topsTo (now book) (C (now book))) × (Parties (now book) (now words) (now terms) (now rows)) × (Headed (now book) (now heads)) × (Lent (now book) (now starts) (now draws) (now halves) (now rests) (now places) (now covered)) ⌝ }
     ensures { λ r. ⌜ Promised wanted (now (schedule .entry)) (now (book .entry)) (now (asked .entry)) (now (lent .entry)) (now (lent .exit)) r ⌝ }
 {
     let mut cells = [0u64; COLUMNS * book::MOST_COUNTERPARTIES];
@@ -337,7 +346,8 @@ fn many(
         rows,
         heads,
         starts,
-        caps,
+        draws,
+        halves,
         rests,
         places,
         covered,
@@ -368,7 +378,8 @@ fn large(
     let mut rows = [0u16; book::MOST_COUNTERPARTIES + 1];
     let mut heads = [0u16; book::MOST_COUNTERPARTIES + 1];
     let mut starts = [0u16; book::MOST_MITIGANTS + 2];
-    let mut caps = [0u64; book::MOST_ASSETS + 1];
+    let mut draws = [0u16; book::MOST_ASSETS + 1];
+    let mut halves = [0u64; book::MOST_COUNTERPARTIES + 1];
     let mut rests = [0u64; book::MOST_ASSETS + 1];
     let mut places = [0u16; book::MOST_ASSETS + 1];
     let mut covered = [0u64; book::MOST_MITIGANTS + 1];
@@ -391,7 +402,8 @@ fn large(
             &rows,
             &heads,
             &mut starts,
-            &mut caps,
+            &mut draws,
+            &mut halves,
             &mut rests,
             &mut places,
             &mut covered,
@@ -409,7 +421,8 @@ fn large(
         &rows,
         &heads,
         &mut starts,
-        &mut caps,
+        &mut draws,
+        &mut halves,
         &mut rests,
         &mut places,
         &mut covered,

@@ -3,7 +3,7 @@ use mathlib.Core.List.{List, [], _∷_}
 use Prim.Native.Nat.{ℕ, _-_}
 use lib.IntN.{pos}
 use lib.ListN.{length}
-use Rattle.words.specs.Words.{_=?_, if_then_else_, sumOf, eachOf}
+use Rattle.words.specs.Words.{_=?_, if_then_else_, sumOf}
 use Rattle.book.specs.declared.Kind.{Kind}
 use Rattle.book.specs.declared.Kind.the-variants.{Other}
 use Rattle.book.specs.declared.Counterparty.{Counterparty}
@@ -11,13 +11,13 @@ use Rattle.book.specs.declared.Asset.{Asset}
 use Rattle.book.specs.declared.Mitigant.{Mitigant}
 use Rattle.book.specs.Book.{Book, Holding}
 use Rattle.exposure.specs.Values.{stressed, net}
-use Rattle.exposure.specs.Parts.{goodCollateral, goodGuarantee, recognised, covers, coveredKind, halfCovered, mayBeCovered, coveredPart, remainder, partsOf, exposuresOf, exposures}
+use Rattle.exposure.specs.Parts.{goodCollateral, goodGuarantee, recognised, covers, coveredKind, halfCovered, treatyNet, halfOf, mayBeCovered, coveredBy, coveredOf, drawnBy, leftAfter, coveredPart, remainder, partsOf, exposuresOf, eachDrawing, exposures}
 use Rattle.exposure.specs.Tier.{gradedTier, ungradedTier, reinsuranceTier, lowerTier, tierBy, tierOf}
 use Rattle.exposure.specs.Sums.{amountOf}
 
 -- whoever unfolds this opens every definition on the way from holdings to exposures and tiers
 unfoldable pub opened : ℕ
-unfolding exposures exposuresOf partsOf coveredPart remainder covers recognised goodCollateral goodGuarantee coveredKind halfCovered mayBeCovered net stressed gradedTier ungradedTier reinsuranceTier lowerTier tierBy tierOf amountOf sumOf eachOf
+unfolding exposures eachDrawing exposuresOf partsOf coveredPart remainder leftAfter drawnBy coveredOf coveredBy covers recognised goodCollateral goodGuarantee coveredKind halfCovered treatyNet halfOf mayBeCovered net stressed gradedTier ungradedTier reinsuranceTier lowerTier tierBy tierOf amountOf sumOf
 opened = 0
 
 -- a counterparty by kind, grade and flags

@@ -2,7 +2,7 @@
 -- A mitigant's flags: 1 secured and held, 2 P35 or P36 terms, 4 P40 terms, 8 P42b to m terms, 16 same currency; 31 has all, 30, 29, 27, 23 and 15
 -- lack one of them. A counterparty's: 1 related, 2 approved affiliate.
 use mathlib.Core.Bool.{Bool, true, false}
-use mathlib.Core.List.{List, [], _∷_, map}
+use mathlib.Core.List.{List, [], _∷_, _++_, map}
 use mathlib.Core.Path.{_≡_, refl}
 use Prim.Native.Nat.{ℕ}
 use Rattle.book.specs.declared.Kind.{Kind}
@@ -10,9 +10,10 @@ use Rattle.book.specs.declared.Kind.the-variants.{Other, Bank, HomeGovernment, 
 use Rattle.book.specs.declared.Counterparty.{Counterparty}
 use Rattle.book.specs.declared.Asset.{Asset}
 use Rattle.book.specs.declared.Mitigant.{Mitigant}
+use Rattle.book.specs.Book.{Holding}
 use Rattle.exposure.specs.declared.Exposure.{Exposure}
 use Rattle.exposure.specs.Parts.{recognised, coveredKind, halfCovered, exposures}
-use Rattle.exposure.specs.Examples.{opened, party, plain, reinsured, mitigant, held, fund}
+use Rattle.exposure.specs.Examples.{opened, party, asset, plain, reinsured, mitigant, held, fund}
 
 -- whether a mitigant of a form, flags and counterparty is recognised on a loan, and on reinsurance
 abbrev onLoan : ℕ → ℕ → Counterparty → Bool
@@ -86,9 +87,12 @@ half-cases :
 unfolding halfCovered
 half-cases = refl
 
--- a fund of one asset whose counterparty is at place 1; a good bank is at place 2
+-- a fund of holdings whose counterparty is at place 1; a good bank is at place 2, and another reinsurer at place 3; and of one asset
+abbrev amountsOf : Counterparty → List Holding → List ℕ
+amountsOf who hs = map (λ (x : Exposure). x .amount) (exposures (fund 0 0 (who ∷ party Bank 1 0 ∷ party Other 1 0 ∷ []) hs))
+
 abbrev amounts : Counterparty → Asset → List Mitigant → List ℕ
-amounts who a ms = map (λ (x : Exposure). x .amount) (exposures (fund 0 0 (who ∷ party Bank 1 0 ∷ []) (held a ms ∷ [])))
+amounts who a ms = amountsOf who (held a ms ∷ [])
 
 -- T9: reinsurance net 101, a good letter of 101: covered 50; for a registered reinsurer 101
 letter-half : amounts (party Other 1 0) (reinsured 1 101 0 101) (mitigant 5 8 2 101 ∷ []) ≡ 50 ∷ 51 ∷ []
@@ -98,6 +102,47 @@ letter-half = refl
 letter-whole : amounts (party LifeCompany 1 0) (reinsured 1 101 0 101) (mitigant 5 8 2 101 ∷ []) ≡ 101 ∷ 0 ∷ []
 unfolding opened
 letter-whole = refl
+
+-- C-18. A treaty of a net with a counterparty and a good letter of some value; the same without; a linked one
+abbrev lettered : ℕ → ℕ → ℕ → Holding
+lettered who net value = held (reinsured who net 0 net) (mitigant 5 8 2 value ∷ [])
+
+abbrev bare : ℕ → ℕ → Holding
+bare who net = held (reinsured who net 0 net) []
+
+abbrev linkedTreaty : ℕ → ℕ → Holding
+linkedTreaty net value = held (asset 9 1 1 net 0 0 0 net) (mitigant 5 8 2 value ∷ [])
+
+-- "Two treaties of 101 and 99 with good letters of 101 only on the first cover 100"; only on the second its net
+one-of-two :
+    amountsOf (party Other 1 0) (lettered 1 101 101 ∷ bare 1 99 ∷ []) ++ amountsOf (party Other 1 0) (bare 1 101 ∷ lettered 1 99 101 ∷ [])
+    ≡ 100 ∷ 1 ∷ 99 ∷ 101 ∷ 99 ∷ 0 ∷ []
+unfolding opened
+one-of-two = refl
+
+-- the first may draw all of it; "rounded down once"; what is drawn is what is covered; the second's draw is cut by the first's
+drawn-in-order :
+    amountsOf (party Other 1 0) (lettered 1 101 101 ∷ lettered 1 101 101 ∷ []) ++ amountsOf (party Other 1 0) (lettered 1 1 1 ∷ bare 1 1 ∷ [])
+    ++ amountsOf (party Other 1 0) (lettered 1 50 90 ∷ lettered 1 150 60 ∷ lettered 1 10 10 ∷ [])
+    ≡ 101 ∷ 0 ∷ 0 ∷ 101 ∷ 1 ∷ 0 ∷ 1 ∷ 50 ∷ 0 ∷ 55 ∷ 95 ∷ 0 ∷ 10 ∷ []
+unfolding opened
+drawn-in-order = refl
+
+-- linked treaties neither add nor draw; another counterparty has its own half; a registered reinsurer and an affiliate have none
+apart-cases :
+    amountsOf (party Other 1 0) (linkedTreaty 100 100 ∷ lettered 1 50 50 ∷ []) ++ amountsOf (party Other 1 0) (lettered 3 60 60 ∷ lettered 1 40 40 ∷ [])
+    ++ amountsOf (party LifeCompany 1 0) (lettered 1 40 40 ∷ lettered 1 60 60 ∷ []) ++ amountsOf (party Other 1 2) (lettered 1 40 40 ∷ lettered 1 60 60 ∷ [])
+    ≡ 25 ∷ 25 ∷ 30 ∷ 30 ∷ 20 ∷ 20 ∷ 40 ∷ 0 ∷ 60 ∷ 0 ∷ 40 ∷ 0 ∷ 60 ∷ 0 ∷ []
+unfolding opened
+apart-cases = refl
+
+-- "that counterparty's": a reinsurer and its child, which are one group, have a half each
+abbrev child : Counterparty
+child = record { parent = 1; kind = Other; grade = 1; flags = 0 }
+
+in-a-group : map (λ (x : Exposure). x .amount) (exposures (fund 0 0 (party Other 1 0 ∷ party Bank 1 0 ∷ child ∷ []) (lettered 1 100 100 ∷ bare 3 100 ∷ []))) ≡ 50 ∷ 50 ∷ 100 ∷ []
+unfolding opened
+in-a-group = refl
 
 -- in order, each of what may still be covered; one that is not recognised covers nothing
 in-order : amounts (party Other 0 0) (plain 7 0 1 100) (mitigant 1 17 2 30 ∷ mitigant 1 0 2 50 ∷ mitigant 4 4 2 90 ∷ mitigant 1 17 2 5 ∷ []) ≡ 30 ∷ 0 ∷ 70 ∷ 0 ∷ 0 ∷ []

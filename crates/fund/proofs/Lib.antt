@@ -2,3 +2,4 @@ pub mod Limits
 pub mod Drawing
 pub mod Tables
 pub mod Cents
+pub mod OneTreaty

@@ -20,9 +20,9 @@ use Rattle.fund.specs.Tables.{FundTables}
 use Rattle.fund.proofs.Limits.{taken}
 use Rattle.fund.proofs.Drawing.{exposed}
 
-pub fund-tables : {schedule b : List ℕ} {groups : ℕ} {f : Fund} {words terms rows starts₀ caps₀ rests₀ places₀ covered₀ cells₀ starts caps rests places covered cells : List ℕ}
-    → Passed schedule b → groups ≡ topsTo b (C b) → Parties b words terms rows → Lent b starts₀ caps₀ rests₀ places₀ covered₀ → Zeros groups cells₀
-    → Drew b groups starts₀ caps₀ rests₀ places₀ covered₀ cells₀ starts caps rests places covered cells → fundCheck (bookOf b) ≡ Fine → RatedAs schedule b f
+pub fund-tables : {schedule b : List ℕ} {groups : ℕ} {f : Fund} {words terms rows starts₀ draws₀ halves₀ rests₀ places₀ covered₀ cells₀ starts draws halves rests places covered cells : List ℕ}
+    → Passed schedule b → groups ≡ topsTo b (C b) → Parties b words terms rows → Lent b starts₀ draws₀ halves₀ rests₀ places₀ covered₀ → Zeros groups cells₀
+    → Drew b groups starts₀ draws₀ halves₀ rests₀ places₀ covered₀ cells₀ starts draws halves rests places covered cells → fundCheck (bookOf b) ≡ Fine → RatedAs schedule b f
     → FundTables schedule b groups f words rows places covered rests cells
 fund-tables {b = b} {rests₀ = rests₀} {places₀ = places₀} p count parties l z d checked rated =
     let nets : N b < length (filled (λ p. restOf (assetAt b p)) (N b) rests₀) = rw (filled-length (λ p. restOf (assetAt b p)) (N b) rests₀) (l .of-rests) in

@@ -15,7 +15,7 @@ use Rattle.refusal.specs.declared.Checked.the-variants.{Fine, Bad}
 use Rattle.refusal.specs.declared.Refusal.{Refusal}
 use Rattle.schedule.specs.Schedule.{scheduleOf}
 use Rattle.schedule.specs.Check.{scheduleCheck}
-use Rattle.book.specs.Records.{N, K, counterpartyAt, assetAt}
+use Rattle.book.specs.Records.{C, N, K, counterpartyAt, assetAt}
 use Rattle.book.specs.Book.{bookOf}
 use Rattle.book.specs.Check.{bookCheck}
 use Rattle.exposure.specs.Values.{VAF, VAF′, fundCheck}
@@ -27,7 +27,8 @@ use Rattle.cascade.specs.Cascade.{tiers, ranked}
 use Rattle.rows.specs.Rows.{columns}
 use Rattle.assets.specs.declared.Values.{Values}
 use Rattle.assets.specs.Marks.{marked}
-use Rattle.assets.specs.Shares.{restOf, capOf}
+use Rattle.assets.specs.Shares.{restOf, drawsOn}
+use Rattle.assets.specs.Halves.{added, Halved}
 use Rattle.assets.specs.Assets.{restCell, FundSums}
 use Rattle.covering.specs.Pass.{Covers}
 use Rattle.cells.specs.declared.Sums.{Sums}
@@ -41,14 +42,15 @@ pub record Passed (schedule book : List ℕ) : Type 0 where
   pub of-book : bookCheck book ≡ Fine
 
 -- tables of zeros that are long enough; the others need only be long enough
-pub record Lent (b starts caps rests places covered : List ℕ) : Type 0 where
+pub record Lent (b starts draws halves rests places covered : List ℕ) : Type 0 where
   pub of-starts : K b + 1 < length starts
-  pub of-caps : N b < length caps
+  pub of-draws : N b < length draws
+  pub of-halves : C b < length halves
   pub of-rests : N b < length rests
   pub of-places : N b < length places
   pub of-covered : K b < length covered
   pub unmarked : (q : ℕ) → _≡_ {A = ℕ} (getD starts q 0) 0
-  pub uncovered : (q : ℕ) → _≡_ {A = ℕ} (getD caps q 0) 0
+  pub undrawn : (q : ℕ) → _≡_ {A = ℕ} (getD halves q 0) 0
 
 -- what no limit is put on, and W
 abbrev pub sumsOf : List ℕ → Sums
@@ -58,10 +60,13 @@ sumsOf b = record { w = W (bookOf b); free = amountOf (λ x. tierOf (counterpart
 abbrev pub Cells : List ℕ → ℕ → List ℕ → List ℕ → Type 0
 Cells b groups cells₀ cells = Posted b groups cells₀ cells (sumsOf b)
 
--- owners, what each mitigant covers, what may still be covered and what remains of each asset, and where that is posted, all in book order; and the cells
-pub record Drew (b : List ℕ) (groups : ℕ) (starts₀ caps₀ rests₀ places₀ covered₀ cells₀ starts caps rests places covered cells : List ℕ) : Type 0 where
+-- owners, whose half each asset draws on, what each mitigant covers, what is left of the halves and of each asset, and where that is posted; and the cells
+pub record Drew (b : List ℕ) (groups : ℕ) (starts₀ draws₀ halves₀ rests₀ places₀ covered₀ cells₀ starts draws halves rests places covered cells : List ℕ) : Type 0 where
   pub marks : starts ≡ marked b starts₀ 1 1 (N b)
-  pub amounts : Covers b covered₀ (filled (λ p. capOf (counterpartyAt b) (assetAt b p)) (N b) caps₀) (filled (λ p. restOf (assetAt b p)) (N b) rests₀) covered caps rests
+  pub on : draws ≡ filled (λ p. drawsOn (counterpartyAt b) (assetAt b p)) (N b) draws₀
+  pub half : List ℕ
+  pub halved : Halved (added b halves₀ 1 (N b)) half
+  pub amounts : Covers b covered₀ half (filled (λ p. restOf (assetAt b p)) (N b) rests₀) covered halves rests
   pub at-places : places ≡ filled (restCell b) (N b) places₀
   pub exposed : Cells b groups cells₀ cells
 

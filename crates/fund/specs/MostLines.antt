@@ -6,26 +6,26 @@ use mathlib.Core.List.{List, [], _∷_}
 use mathlib.Core.Path.{_≡_, refl, sym, _∙_}
 use Prim.Native.Nat.{ℕ, zero, suc, _+_, _-_, _≤_}
 use native.Mathlib.Omega.{arith}
-use lib.ListN.{length}
+use lib.ListN.{length, length-append}
 use borrow.Author.Tests.{eqb-true}
 use Rattle.words.specs.Words.{_<?_, _=?_, if_then_else_, sumOf, sum}
 use Rattle.words.specs.Choice.{if-le}
-use Rattle.words.specs.Sums.{sum-zero, sum-le, sum-same, sum-each, sum-each-same, sum-length, sum-most, sum-swap, sum-once}
+use Rattle.words.specs.Sums.{sum-zero, sum-le, sum-same, sum-length, sum-most, sum-swap, sum-once}
 use Rattle.cascade.specs.Cascade.{tiers}
 use Rattle.book.specs.declared.Counterparty.{Counterparty}
 use Rattle.book.specs.declared.Asset.{Asset}
 use Rattle.book.specs.declared.Mitigant.{Mitigant}
 use Rattle.book.specs.Fields.{linked}
 use Rattle.book.specs.Records.{N, K, assetAt, counterpartyAt}
-use Rattle.book.specs.Book.{Book, Holding, mitigantsFrom, holdingsFrom, bookOf, topOf}
+use Rattle.book.specs.Book.{Book, Holding, holdingsFrom, bookOf, topOf}
 use Rattle.book.specs.Check.{countsAdd}
 use Rattle.book.specs.Accepted.{Accepted}
 use Rattle.exposure.specs.declared.Exposure.{Exposure}
-use Rattle.exposure.specs.Parts.{covers, mayBeCovered, partsOf, exposuresOf, exposures}
+use Rattle.exposure.specs.Parts.{covers, halfOf, mayBeCovered, leftAfter, partsOf, exposuresOf, eachDrawing, exposures}
 use Rattle.exposure.specs.Values.{net}
 use Rattle.exposure.specs.Tier.{tierOf}
 use Rattle.exposure.specs.Sums.{amountOf, exposureOf}
-use Rattle.covering.specs.Covered.{mitigants-length}
+use Rattle.covering.specs.Covered.{holdingAt, mitigants-length}
 use Rattle.schedule.specs.declared.Schedule.{Schedule}
 use Rattle.figures.specs.Report.{linesOf}
 use Rattle.figures.proofs.Written.{lines-sum}
@@ -96,39 +96,32 @@ parts-length cs a (m ∷ ms) still rest =
     let part = covers a m (cs (m .counterparty)) still in
     omega (arith, parts-length cs a ms (still - part) (rest - part))
 
-holding-few : (cs : ℕ → Counterparty) (h : Holding) → length (exposuresOf cs h) ≤ length (h .mitigants) + 1
+holding-few : (cs : ℕ → Counterparty) (left : ℕ → ℕ) (h : Holding) → length (exposuresOf cs left h) ≤ length (h .mitigants) + 1
 unfolding exposuresOf
-holding-few cs h = by (linked (h .asset))
+holding-few cs left h = by (linked (h .asset))
   where
-    by : (t : Bool) → length (if t then [] else partsOf cs (h .asset) (h .mitigants) (mayBeCovered cs (h .asset)) (net (h .asset))) ≤ length (h .mitigants) + 1
+    by : (t : Bool) → length (if t then [] else partsOf cs (h .asset) (h .mitigants) (mayBeCovered cs left (h .asset)) (net (h .asset))) ≤ length (h .mitigants) + 1
     by true = omega arith
-    by false = omega (arith, parts-length cs (h .asset) (h .mitigants) (mayBeCovered cs (h .asset)) (net (h .asset)))
+    by false = omega (arith, parts-length cs (h .asset) (h .mitigants) (mayBeCovered cs left (h .asset)) (net (h .asset)))
 
-holdings-few : (b : List ℕ) (cs : ℕ → Counterparty) (more place m : ℕ)
-    → sumOf (λ h. length (exposuresOf cs h)) (holdingsFrom b place m more) ≤ more + sumOf (λ (h : Holding). h .asset .count) (holdingsFrom b place m more)
-unfolding sumOf holdingsFrom
-holdings-few b cs zero place m = omega arith
-holdings-few b cs (suc more) place m =
+holdings-few : (b : List ℕ) (cs : ℕ → Counterparty) (left : ℕ → ℕ) (more place m : ℕ)
+    → length (eachDrawing cs (exposuresOf cs) left (holdingsFrom b place m more)) ≤ more + sumOf (λ (h : Holding). h .asset .count) (holdingsFrom b place m more)
+unfolding sumOf holdingsFrom eachDrawing
+holdings-few b cs left zero place m = omega arith
+holdings-few b cs left (suc more) place m =
     let a = assetAt b place in
+    let this = holdingAt b place m in
+    let next = leftAfter cs left this in
     omega (
       arith,
-      holding-few cs (record { asset = a; mitigants = mitigantsFrom b m (a .count) }),
+      length-append (exposuresOf cs left this) (eachDrawing cs (exposuresOf cs) next (holdingsFrom b (place + 1) (m + a .count) more)),
+      holding-few cs left this,
       mitigants-length b (a .count) m,
-      holdings-few b cs more (place + 1) (m + a .count),
+      holdings-few b cs next more (place + 1) (m + a .count),
     )
 
 -- "2,400 lines": of 900 assets and 1,500 mitigants, however many tiers there are
 pub lines-most : (S : Schedule) (b : List ℕ) → Accepted b → length (linesOf (fundOf S (bookOf b))) ≤ N b + K b
 unfolding exposures bookOf countsAdd
 lines-most S b acc =
-    let cs = counterpartyAt b in
-    let hs = holdingsFrom b 1 1 (N b) in
-    omega (
-      arith,
-      lines-few (bookOf b) S,
-      sum-length (exposures (bookOf b)),
-      sum-each (λ _. 1) (exposuresOf cs) hs,
-      sum-each-same (λ h. sumOf (λ _. 1) (exposuresOf cs h)) (λ h. length (exposuresOf cs h)) hs (λ h. sum-length (exposuresOf cs h)),
-      holdings-few b cs (N b) 1 1,
-      acc .counted,
-    )
+    omega (arith, lines-few (bookOf b) S, holdings-few b (counterpartyAt b) (halfOf (holdingsFrom b 1 1 (N b))) (N b) 1 1, acc .counted)

@@ -8,7 +8,7 @@ use Rattle.book.specs.Records.{C, N, K}
 use Rattle.book.specs.Book.{bookOf}
 use Rattle.exposure.specs.Values.{fundCheck}
 use Rattle.parties.specs.Rows.{topsTo}
-use Rattle.covering.specs.ByPlace.{PartedFrom}
+use Rattle.covering.specs.ByPlace.{PartedBook}
 use Rattle.cells.specs.Cells.{Rowed, Placed}
 use Rattle.fund.specs.declared.Fund.{Fund}
 use Rattle.fund.specs.Fund.{Passed, Exposed, RatedAs}
@@ -25,4 +25,4 @@ pub record FundTables (schedule book : List ℕ) (groups : ℕ) (f : Fund) (word
   pub placed : Placed book places
   pub covered-size : K book < length covered
   pub rests-size : N book < length rests
-  pub parts : PartedFrom book covered rests 1 1 (N book)
+  pub parts : PartedBook book covered rests

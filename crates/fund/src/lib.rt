@@ -49,14 +49,15 @@ fn draw(
     terms: &[u64],
     rows: &[u16],
     starts: &mut [u16],
-    caps: &mut [u64],
+    draws: &mut [u16],
+    halves: &mut [u64],
     rests: &mut [u64],
     places: &mut [u16],
     covered: &mut [u64],
     cells: &mut [u64],
 ) -> Drawn
-    requires { ⌜ (Accepted (now book)) × (groups ≡ topsTo (now book) (C (now book))) × (Parties (now book) (now words) (now terms) (now rows)) × (Lent (now book) (now starts) (now caps) (now rests) (now places) (now covered)) × (Zeros groups (now cells)) ⌝ }
-    ensures tables { λ r. ⌜ Drew (now (book .entry)) groups (now (starts .entry)) (now (caps .entry)) (now (rests .entry)) (now (places .entry)) (now (covered .entry)) (now (cells .entry)) (now (starts .exit)) (now (caps .exit)) (now (rests .exit)) (now (places .exit)) (now (covered .exit)) (now (cells .exit)) ⌝ }
+    requires { ⌜ (Accepted (now book)) × (groups ≡ topsTo (now book) (C (now book))) × (Parties (now book) (now words) (now terms) (now rows)) × (Lent (now book) (now starts) (now draws) (now halves) (now rests) (now places) (now covered)) × (Zeros groups (now cells)) ⌝ }
+    ensures tables { λ r. ⌜ Drew (now (book .entry)) groups (now (starts .entry)) (now (draws .entry)) (now (halves .entry)) (now (rests .entry)) (now (places .entry)) (now (covered .entry)) (now (cells .entry)) (now (starts .exit)) (now (draws .exit)) (now (halves .exit)) (now (rests .exit)) (now (places .exit)) (now (covered .exit)) (now (cells .exit)) ⌝ }
     ensures sums { λ r. ⌜ Summed (now (book .entry)) (r .values) (r .sums) ⌝ }
 {
     let h = book::header_at(book);
@@ -72,11 +73,23 @@ fn draw(
         terms,
         rows,
         starts,
-        caps,
+        draws,
+        halves,
         rests,
         places,
     );
-    covering::cover(book, behind, k, terms, starts, caps, rests, covered);
+    assets::halve(halves);
+    covering::cover(
+        book,
+        behind,
+        k,
+        terms,
+        starts,
+        draws,
+        halves,
+        rests,
+        covered,
+    );
     let sums = cells::post(
         book,
         behind,
@@ -172,14 +185,15 @@ pub fn make(
     terms: &[u64],
     rows: &[u16],
     starts: &mut [u16],
-    caps: &mut [u64],
+    draws: &mut [u16],
+    halves: &mut [u64],
     rests: &mut [u64],
     places: &mut [u16],
     covered: &mut [u64],
     cells: &mut [u64],
 ) -> Fund
-    requires { ⌜ (Passed (now schedule) (now book)) × (groups ≡ topsTo (now book) (C (now book))) × (Parties (now book) (now words) (now terms) (now rows)) × (Lent (now book) (now starts) (now caps) (now rests) (now places) (now covered)) × (Zeros groups (now cells)) ⌝ }
-    ensures tables { λ r. ⌜ Drew (now (book .entry)) groups (now (starts .entry)) (now (caps .entry)) (now (rests .entry)) (now (places .entry)) (now (covered .entry)) (now (cells .entry)) (now (starts .exit)) (now (caps .exit)) (now (rests .exit)) (now (places .exit)) (now (covered .exit)) (now (cells .exit)) ⌝ }
+    requires { ⌜ (Passed (now schedule) (now book)) × (groups ≡ topsTo (now book) (C (now book))) × (Parties (now book) (now words) (now terms) (now rows)) × (Lent (now book) (now starts) (now draws) (now halves) (now rests) (now places) (now covered)) × (Zeros groups (now cells)) ⌝ }
+    ensures tables { λ r. ⌜ Drew (now (book .entry)) groups (now (starts .entry)) (now (draws .entry)) (now (halves .entry)) (now (rests .entry)) (now (places .entry)) (now (covered .entry)) (now (cells .entry)) (now (starts .exit)) (now (draws .exit)) (now (halves .exit)) (now (rests .exit)) (now (places .exit)) (now (covered .exit)) (now (cells .exit)) ⌝ }
     ensures made { λ r. ⌜ Made (now (schedule .entry)) (now (book .entry)) r ⌝ }
 {
     let drawn = draw(
@@ -189,7 +203,8 @@ pub fn make(
         terms,
         rows,
         starts,
-        caps,
+        draws,
+        halves,
         rests,
         places,
         covered,

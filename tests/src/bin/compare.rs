@@ -3,7 +3,7 @@
 //! to the cost of the report's charge; and the answers to lists of questions, which each question
 //! must get when sent singly, and which must hold of the reports of books with so much more.
 //!
-//!     compare [--inputs N] [--seed S]            N inputs (100,000 unless said) under the seed S, a
+//!     compare [--inputs N] [--seed S]            N inputs (125,000 unless said) under the seed S, a
 //!                                                fifth as many of the converter, and a quarter
 //!                                                each of the bills and of the questions
 //!     compare --only I [--seed S] [--dump FILE]  input I alone; FILE gets its schedule and book
@@ -11,28 +11,30 @@
 //!     compare --billing I [--seed S] ..          the same of the bills' inputs
 //!     compare --asking I [--seed S] ..           the same of the questions' inputs
 //!     compare --against yardstick ..             with the static library that the build was given,
-//!                                                reports alone, and the questions' answers where
-//!                                                that library has them; reports may differ as C-17
-//!                                                has them differ from those before it, in the order
-//!                                                of lines with the same limit, and are counted
+//!                                                reports, and the bills and the questions' answers
+//!                                                where that library has them; where treaties share
+//!                                                a half, that library's may be those from before
+//!                                                C-18, and are counted
 //!     compare --without-version V ..             leaving out books whose byte 4 is V
 //!     compare --without-schedule-version V ..    leaving out schedules whose byte 4 is V
 //!
 //! Ends with status 1 on the first difference, or where a refusal or a tier was not met at all,
 //! also under schedules of version 2 alone unless these are left out, no report had a higher tier
-//! number before a lower one of the same limit, no more than half of the bills were of excesses at
-//! several desks, or a sort of question or answer was not met.
+//! number before a lower one of the same limit, too few inputs had treaties that share a half, one
+//! that an earlier one cut short, or one that is covered for more than half of its net, no more than
+//! half of the bills were of excesses at several desks, or a sort of question or answer was not met.
 
 use std::process::ExitCode;
 use std::time::Instant;
 use weightrose_tests::compare::{
-    adds_up, as_singly, compare, compare_before, compare_bills, compare_headroom, in_tier_order,
-    keeps, library, library_bills, library_convert, library_headroom, may_be_bought, runs, second,
-    second_bills, second_convert, second_headroom, Difference, Lent, Outcome, GUARD,
+    adds_up, as_singly, compare, compare_before, compare_bills, compare_bills_before,
+    compare_headroom, compare_headroom_before, in_tier_order, keeps, library, library_bills,
+    library_convert, library_headroom, may_be_bought, runs, second, second_bills, second_convert,
+    second_headroom, Difference, Lent, Outcome, GUARD,
 };
 use weightrose_tests::inputs::{Asking, Askings, Billing, Billings, Conversions, Input, Inputs};
 use weightrose_tests::raw::MOST;
-use weightrose_tests::second::{met_of, served_of};
+use weightrose_tests::second::{halves_of, met_of, served_of};
 use weightrose_tests::weightrose::{amount, Answer, HEADER, LINE, MOST_QUESTIONS};
 
 const REFUSALS: usize = 21;
@@ -46,6 +48,8 @@ const OF_HEADROOM: &[usize] = &[1, 2, 3, 4, 5, 6, 7, 8, 9, 10, 11, 12, 13, 14, 1
 const TIERS_ASKED: [usize; 5] = [0, 2, 10, 11, 12];
 /// The refusal of a rate: the first that a schedule of a known version can have.
 const RATES: usize = 4;
+/// What is said where C-18's situations were met too seldom.
+const TOO_FEW_HALVES: &str = "too few treaties shared a half, were cut short or covered past half";
 const TIERS: usize = 16;
 const TIER_NAMES: [&str; TIERS] = [
     "i",
@@ -79,19 +83,32 @@ struct Options {
     against: Other,
 }
 
+type Bills = fn(&[u8], &[u8], u64, &mut Lent) -> u64;
 type Headroom = fn(&[u8], &[u8], &[u8], &mut Lent) -> u64;
 
 /// What the library is compared with.
 struct Other {
     name: &'static str,
     subject: fn(&[u8], &[u8], &mut Lent) -> u64,
+    /// None where it bills no desks.
+    bills: Option<Bills>,
     /// None where it answers no questions.
     headroom: Option<Headroom>,
 }
 
-const SECOND: Other =
-    Other { name: "second implementation", subject: second, headroom: Some(second_headroom) };
+const SECOND: Other = Other {
+    name: "second implementation",
+    subject: second,
+    bills: Some(second_bills),
+    headroom: Some(second_headroom),
+};
 
+#[cfg(yardstick_bills)]
+const YARDSTICK_BILLS: Option<Bills> = Some(|schedule, book, rate, lent| {
+    weightrose_tests::yardstick::bills(schedule, book, rate, lent.buffer())
+});
+#[cfg(all(yardstick, not(yardstick_bills)))]
+const YARDSTICK_BILLS: Option<Bills> = None;
 #[cfg(yardstick_headroom)]
 const YARDSTICK_HEADROOM: Option<Headroom> = Some(|schedule, book, questions, lent| {
     weightrose_tests::yardstick::headroom(schedule, book, questions, lent.buffer())
@@ -108,6 +125,7 @@ fn other(name: &str) -> Result<Other, String> {
             subject: |schedule, book, lent| {
                 weightrose_tests::yardstick::report(schedule, book, lent.buffer())
             },
+            bills: YARDSTICK_BILLS,
             headroom: YARDSTICK_HEADROOM,
         }),
         _ => Err(format!("nothing that is called {name} was linked")),
@@ -116,7 +134,7 @@ fn other(name: &str) -> Result<Other, String> {
 
 fn options() -> Result<Options, String> {
     let mut options = Options {
-        inputs: 100_000,
+        inputs: 125_000,
         seed: 20_230_701,
         only: None,
         conversion: None,
@@ -185,6 +203,11 @@ struct Met {
     lines: [Count; TIERS],
     /// Reports with a higher tier number before a lower one of the same limit (C-17).
     near_ties: Count,
+    /// Accepted inputs with treaties that share a half (C-18): unlinked ones with recognised
+    /// mitigants, one that an earlier one cut short, and one covered for more than half of its net.
+    shared: Count,
+    cut_short: Count,
+    over_half: Count,
 }
 
 impl Met {
@@ -196,8 +219,27 @@ impl Met {
             Some(Answer::Refused(refusal)) => {
                 self.refusals[refusal.number() as usize - 1].add(input);
             }
-            Some(Answer::Written(_)) => self.written.add(input),
+            Some(Answer::Written(_)) => {
+                self.written.add(input);
+                self.count_halves(input);
+            }
             None => unreachable!("both answered {:#x}", outcome.answer),
+        }
+    }
+
+    fn count_halves(&mut self, input: &Input) {
+        if treaties(&input.book) < 2 {
+            return;
+        }
+        let met = halves_of(&input.schedule, &input.book).unwrap_or_default();
+        for (met, count) in [
+            (met.shared, &mut self.shared),
+            (met.cut_short, &mut self.cut_short),
+            (met.over_half, &mut self.over_half),
+        ] {
+            if met {
+                count.add(input);
+            }
         }
     }
 
@@ -226,6 +268,23 @@ impl Met {
         for number in refusals {
             line(&format!("refusal {number:2}"), self.refusals[number - 1]);
         }
+        for (name, count, what) in [
+            ("halves", self.shared, "shared by treaties with recognised mitigants"),
+            ("cut short", self.cut_short, "a treaty, by an earlier one's draw"),
+            ("over half", self.over_half, "of its own net covered, of a treaty"),
+        ] {
+            println!("{name:10} {:9} {:9} {what}", count.all, count.version_2);
+        }
+    }
+
+    /// C-18: enough of the inputs, under both versions of schedules where `under_both`.
+    fn halves_met(&self, under_both: bool) -> bool {
+        let met = |inputs: u64, [shared, cut_short, over_half]: [u64; 3]| {
+            20 * shared > inputs && 40 * cut_short > inputs && 20 * over_half > inputs
+        };
+        let counts = [self.shared, self.cut_short, self.over_half];
+        met(self.inputs.all, counts.map(|count| count.all))
+            && (!under_both || counts.iter().all(|count| count.version_2 > 0))
     }
 
     fn print_lines(&self) {
@@ -256,6 +315,13 @@ impl Met {
     fn lines_met_under_version_2(&self) -> bool {
         self.lines.iter().all(|count| count.version_2 > 0) && self.near_ties.version_2 > 0
     }
+}
+
+/// How many reinsurance assets a book's bytes have.
+fn treaties(book: &[u8]) -> usize {
+    let count = |place| usize::from(u16::from_le_bytes([book[place], book[place + 1]]));
+    let first = 40 + 4 * count(6);
+    (0..count(8)).filter(|asset| book.get(first + 48 * asset) == Some(&9)).count()
 }
 
 /// What accepted inputs of the bills met.
@@ -424,8 +490,8 @@ fn reports(options: &Options) -> Result<(), String> {
             if name == SECOND.name {
                 return compare(&library, &other, &input);
             }
-            let (outcome, other_order) = compare_before(&library, &other, &input)?;
-            differing += u64::from(other_order);
+            let (outcome, differs) = compare_before(&library, &other, &input)?;
+            differing += u64::from(differs);
             Ok(outcome)
         };
         let outcome = compare_one(options, "--only", number, &input, both)?;
@@ -438,7 +504,11 @@ fn reports(options: &Options) -> Result<(), String> {
         return Err("a refusal, a tier or a near tie was not met".to_string());
     }
     let without = options.only.is_some() || options.without_schedule_version == Some(2);
-    if !without && !(met.refusals_met_under_both(OF_REPORT) && met.lines_met_under_version_2()) {
+    if options.only.is_none() && !met.halves_met(!without) {
+        return Err(TOO_FEW_HALVES.to_string());
+    }
+    let under_both = met.refusals_met_under_both(OF_REPORT) && met.lines_met_under_version_2();
+    if !without && !under_both {
         let what = "a refusal, a tier or a near tie was not met under a version of schedules";
         return Err(what.to_string());
     }
@@ -447,13 +517,18 @@ fn reports(options: &Options) -> Result<(), String> {
         0 => format!("the first {} fixed", inputs.fixed()),
         left_out => format!("{left_out} left out"),
     };
-    let but = match differing {
-        0 => String::new(),
-        _ => format!(" but C-17's order of equal limits in {differing} reports"),
-    };
+    let but = but(differing, "reports");
     let seconds = start.elapsed().as_secs_f64();
     println!("compared on {compared} inputs, {which}: no difference{but}, {seconds:.1} s");
     Ok(())
+}
+
+/// What is said where so many of the other library's were those from before C-18.
+fn but(differing: u64, what: &str) -> String {
+    match differing {
+        0 => String::new(),
+        _ => format!(" but C-18's half in {differing} {what}"),
+    }
 }
 
 fn conversions(options: &Options) -> Result<(), String> {
@@ -475,6 +550,9 @@ fn conversions(options: &Options) -> Result<(), String> {
     if options.conversion.is_none() && !met.refusals_met(OF_CONVERSION) {
         return Err("a refusal of the converter was not met".to_string());
     }
+    if options.conversion.is_none() && !met.halves_met(true) {
+        return Err(TOO_FEW_HALVES.to_string());
+    }
     let (fixed, seconds) = (inputs.fixed(), start.elapsed().as_secs_f64());
     println!(
         "converters compared on {count} inputs, the first {fixed} fixed: no difference, {seconds:.1} s"
@@ -482,16 +560,27 @@ fn conversions(options: &Options) -> Result<(), String> {
     Ok(())
 }
 
-fn bills(options: &Options) -> Result<(), String> {
+fn bills(options: &Options, other: Bills) -> Result<(), String> {
     let start = Instant::now();
     let inputs = Billings::new(options.seed);
     let (mut met, mut met_bills) = (Met::default(), MetBills::default());
+    let mut differing = 0;
     let numbers = numbers(options.billing, options.inputs / 4);
     let count = numbers.len();
     for number in numbers {
         let billing = inputs.get(number);
         let Billing { input, rate } = &billing;
-        let both = || compare_bills(&library_bills, &second_bills, &billing);
+        if options.leaves_out(input) {
+            continue;
+        }
+        let both = || {
+            if options.against.name == SECOND.name {
+                return compare_bills(&library_bills, &other, &billing);
+            }
+            let (outcome, differs) = compare_bills_before(&library_bills, &other, &billing)?;
+            differing += u64::from(differs);
+            Ok(outcome)
+        };
         let outcome = compare_one(options, "--billing", number, input, both)
             .map_err(|what| format!("{what}, rate {rate}"))?;
         if let Some(Answer::Written(length)) = Answer::unpacked(outcome.answer) {
@@ -503,16 +592,22 @@ fn bills(options: &Options) -> Result<(), String> {
     }
     met.print("bills", OF_BILLS);
     met_bills.print();
-    let all_met = met.refusals_met(OF_BILLS)
-        && met.refusals_met_under_both(OF_BILLS)
-        && met_bills.met(met.written.all);
+    let with_version_2 = options.without_schedule_version != Some(2);
+    let under_both = !with_version_2 || met.refusals_met_under_both(OF_BILLS);
+    let all_met = met.refusals_met(OF_BILLS) && under_both && met_bills.met(met.written.all);
     if options.billing.is_none() && !all_met {
         return Err("a refusal or an excess of the bills was not met".to_string());
     }
-    let (fixed, seconds) = (inputs.fixed(), start.elapsed().as_secs_f64());
-    println!(
-        "bills compared on {count} inputs, the first {fixed} fixed: no difference, {seconds:.1} s"
-    );
+    if options.billing.is_none() && !met.halves_met(with_version_2) {
+        return Err(TOO_FEW_HALVES.to_string());
+    }
+    let which = match count as u64 - met.inputs.all {
+        0 => format!("the first {} fixed", inputs.fixed()),
+        left_out => format!("{left_out} left out"),
+    };
+    let but = but(differing, "of them");
+    let (compared, seconds) = (met.inputs.all, start.elapsed().as_secs_f64());
+    println!("bills compared on {compared} inputs, {which}: no difference{but}, {seconds:.1} s");
     Ok(())
 }
 
@@ -520,6 +615,7 @@ fn questions(options: &Options, other: Headroom) -> Result<(), String> {
     let start = Instant::now();
     let inputs = Askings::new(options.seed);
     let (mut met, mut met_questions) = (Met::default(), MetQuestions::default());
+    let mut differing = 0;
     let numbers = numbers(options.asking, options.inputs / 4);
     let count = numbers.len();
     for number in numbers {
@@ -528,7 +624,14 @@ fn questions(options: &Options, other: Headroom) -> Result<(), String> {
         if options.leaves_out(input) {
             continue;
         }
-        let both = || compare_headroom(&library_headroom, &other, &asking);
+        let both = || {
+            if options.against.name == SECOND.name {
+                return compare_headroom(&library_headroom, &other, &asking);
+            }
+            let (outcome, differs) = compare_headroom_before(&library_headroom, &other, &asking)?;
+            differing += u64::from(differs);
+            Ok(outcome)
+        };
         let outcome = compare_one(options, "--asking", number, input, both)
             .map_err(|what| format!("{what}, questions {questions:?}"))?;
         if let Some(Answer::Written(length)) = Answer::unpacked(outcome.answer) {
@@ -542,19 +645,22 @@ fn questions(options: &Options, other: Headroom) -> Result<(), String> {
     }
     met.print("answered", OF_HEADROOM);
     met_questions.print();
-    let under_both =
-        options.without_schedule_version == Some(2) || met.refusals_met_under_both(OF_HEADROOM);
+    let with_version_2 = options.without_schedule_version != Some(2);
+    let under_both = !with_version_2 || met.refusals_met_under_both(OF_HEADROOM);
     let all_met = met.refusals_met(OF_HEADROOM) && under_both && met_questions.met();
     if options.asking.is_none() && !all_met {
         return Err("a refusal of the questions or a sort of them was not met".to_string());
+    }
+    if options.asking.is_none() && !met.halves_met(with_version_2) {
+        return Err(TOO_FEW_HALVES.to_string());
     }
     let which = match count as u64 - met.inputs.all {
         0 => format!("the first {} fixed", inputs.fixed()),
         left_out => format!("{left_out} left out"),
     };
-    let seconds = start.elapsed().as_secs_f64();
-    let compared = met.inputs.all;
-    println!("answers compared on {compared} inputs, {which}: no difference, {seconds:.1} s");
+    let but = but(differing, "lists");
+    let (compared, seconds) = (met.inputs.all, start.elapsed().as_secs_f64());
+    println!("answers compared on {compared} inputs, {which}: no difference{but}, {seconds:.1} s");
     Ok(())
 }
 
@@ -565,12 +671,13 @@ fn run(options: &Options) -> Result<(), String> {
     if asked(0) {
         reports(options)?;
     }
-    if options.against.name == SECOND.name {
-        if asked(1) {
-            conversions(options)?;
-        }
-        if asked(2) {
-            bills(options)?;
+    if asked(1) && options.against.name == SECOND.name {
+        conversions(options)?;
+    }
+    if asked(2) {
+        match options.against.bills {
+            Some(other) => bills(options, other)?,
+            None => println!("{} bills no desks", options.against.name),
         }
     }
     if asked(3) {

@@ -4,7 +4,7 @@
 use super::billings::{bank, cash, concentrated, limits, of_reinsurers, turned_back};
 use super::extremes::{self, sixteen_tiers};
 use super::faults::{every_set, refusable, refuse_12_to_17, refused_1_to_12};
-use super::{books, combinations, made, of_any_family, rates, ties, versions};
+use super::{books, combinations, halves, made, of_any_family, rates, ties, versions};
 use super::{Input, Listed, Parents, Room, Shape};
 use crate::random::Random;
 use crate::raw::*;
@@ -50,6 +50,7 @@ impl Askings {
             schedule_versions(),
             reports_under_rates(),
             near_ties(),
+            treaties(),
             sizes(),
             largest(),
         ];
@@ -626,6 +627,20 @@ fn near_ties() -> Vec<Asking> {
     inputs.map(|input| of_input(input, list.clone())).collect()
 }
 
+/// C-18: every second of the report's inputs, with questions of the bank and the reinsurers whose
+/// exposures the half decides.
+fn treaties() -> Vec<Asking> {
+    let random = &mut Random::new(18, 0);
+    let mut inputs = Vec::new();
+    for input in halves::all().into_iter().step_by(2) {
+        let mut questions = any_questions(random, &input.book, 3);
+        let list = [(1, 3), (1, 4), (5, 11), (5, 6), (9, 11)].map(|(who, kind)| ask(who, kind));
+        questions.extend(RawQuestion::list(&list));
+        inputs.push(of_input(input, questions));
+    }
+    inputs
+}
+
 /// Books of several sizes, in few groups and in many, with as many questions as may be sent.
 fn sizes() -> Vec<Asking> {
     let sizes = [
@@ -665,8 +680,8 @@ fn largest() -> Vec<Asking> {
     inputs
 }
 
-/// A fund near its limits, one with near ties, a concentrated one, a book as the report gets it, or a
-/// fixed input of the report; with any list and any buffer.
+/// A fund near its limits, one with near ties or with treaties that share a half, a concentrated one,
+/// a book as the report gets it, or a fixed input of the report; with any list and any buffer.
 fn seeded(random: &mut Random, reports: &[Input]) -> Asking {
     let input = match random.below(100) {
         0..=9 => reports[random.index(reports.len())].clone(),
@@ -683,9 +698,16 @@ fn seeded(random: &mut Random, reports: &[Input]) -> Asking {
             let (schedule, book) = near_limits(random);
             made(random, schedule, book)
         }
-        50..=59 => {
+        50..=58 => {
             let (schedule, book) = ties::random(random);
             Input::new("near ties", &schedule, &book)
+        }
+        59..=76 => {
+            let (schedule, mut book) = halves::random(random);
+            if random.chance(40) {
+                versions::at_desks(random, &mut book);
+            }
+            Input::new("halves", &schedule, &book)
         }
         _ => {
             let (schedule, book) = near_limits(random);

@@ -4,7 +4,7 @@
 use super::edges::sample;
 use super::extremes::{self, sixteen_tiers};
 use super::faults::{every_set, refusable, refuse_12_to_17, refused_1_to_12};
-use super::{books, combinations, made, of_any_family, rates, ties, versions};
+use super::{books, combinations, halves, made, of_any_family, rates, ties, versions};
 use super::{Input, Listed, Parents, Room, Shape};
 use crate::random::Random;
 use crate::raw::*;
@@ -43,6 +43,7 @@ impl Billings {
             a3_rates(),
             reports_under_rates(),
             near_ties(),
+            treaties(),
             sizes(),
             largest(),
         ];
@@ -425,6 +426,11 @@ fn near_ties() -> Vec<Billing> {
     every_few(17, ties::all(), 3)
 }
 
+/// C-18: every second of the report's inputs.
+fn treaties() -> Vec<Billing> {
+    every_few(18, halves::all(), 2)
+}
+
 /// Inputs of the report, one of so many, at desks.
 fn every_few(seed: u64, inputs: Vec<Input>, step: usize) -> Vec<Billing> {
     let random = &mut Random::new(seed, 0);
@@ -489,8 +495,8 @@ fn bytes_at_desks(random: &mut Random, book: &mut [u8]) {
     }
 }
 
-/// A concentrated fund, one with near ties, a book as the report gets it, or a fixed input of the
-/// report; with any rate and any buffer.
+/// A concentrated fund, one with near ties or with treaties that share a half, a book as the report
+/// gets it, or a fixed input of the report; with any rate and any buffer.
 fn seeded(random: &mut Random, reports: &[Input]) -> Billing {
     let mut rate = random_rate(random);
     let mut input = match random.below(100) {
@@ -517,10 +523,15 @@ fn seeded(random: &mut Random, reports: &[Input]) -> Billing {
             let (schedule, book) = concentrated(random);
             made(random, schedule, book)
         }
-        53..=64 => {
+        53..=62 => {
             let (schedule, mut book) = ties::random(random);
             versions::at_desks(random, &mut book);
             Input::new("near ties", &schedule, &book)
+        }
+        63..=79 => {
+            let (schedule, mut book) = halves::random(random);
+            versions::at_desks(random, &mut book);
+            Input::new("halves", &schedule, &book)
         }
         _ => {
             let (schedule, book) = concentrated(random);
@@ -604,7 +615,7 @@ fn repeat(random: &mut Random, book: &mut RawBook) {
 }
 
 /// Rates and fixed amounts that exposures of the scale pass, in either version.
-fn low_limits(random: &mut Random, scale: u64) -> RawSchedule {
+pub fn low_limits(random: &mut Random, scale: u64) -> RawSchedule {
     let mut schedule = RawSchedule::published();
     let row = |random: &mut Random| RawRow {
         rates: std::array::from_fn(|_| random.pick(&[0, 0, 0, 1, 5, 25, 50, 125])),

@@ -3,7 +3,7 @@
 
 use super::edges::sample;
 use super::extremes::{largest_report_book, largest_specialist_book};
-use super::{books, made, specialist, versions, Input, Room};
+use super::{books, halves, made, specialist, versions, Family, Input, Room};
 use crate::random::Random;
 use crate::raw::*;
 
@@ -18,7 +18,7 @@ pub struct Conversions {
 
 impl Conversions {
     pub fn new(seed: u64) -> Conversions {
-        let parts = [first_bytes(), counts(), faults(), rooms(), largest()];
+        let parts = [first_bytes(), counts(), faults(), rooms(), largest(), treaties()];
         Conversions { seed, fixed: parts.into_iter().flatten().collect() }
     }
 
@@ -132,9 +132,19 @@ fn largest() -> Vec<Input> {
     books.iter().flat_map(|book| [0, -1, 1].map(|more| beside("largest", book, more))).collect()
 }
 
+/// C-18: every fourth of the report's inputs.
+fn treaties() -> Vec<Input> {
+    let of_length = |input: Input| Input { room: Room::Bytes(input.book.len()), ..input };
+    halves::all().into_iter().step_by(4).map(of_length).collect()
+}
+
 /// A book as the report gets it, mostly of version 1, every fourth with many mitigants.
 fn seeded(random: &mut Random) -> Input {
-    let family = if random.chance(20) { specialist::random } else { books::random };
+    let family: Family = match random.below(100) {
+        0..=19 => specialist::random,
+        20..=44 => halves::random,
+        _ => books::random,
+    };
     let (schedule, mut book) = family(random);
     if random.chance(25) {
         books::crowd(random, &mut book);

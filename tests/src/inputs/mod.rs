@@ -1,11 +1,12 @@
 //! What library and second implementation are compared on: first every boundary, the largest books,
 //! every combination of a list, the limits of specialist funds, the versions of a book and those of
-//! a schedule, and limits that are equal in cents alone (`edges`, `extremes`, `combinations`,
-//! `specialist`, `versions`, `rates`, `ties`), then seeded books of any fund (`books`) and, every
-//! sixth each, of a specialist one (`specialist`), under rates in ten-thousandths (`rates`) and with
-//! such limits (`ties`), some of them with faults or damage (`faults`). The converter
-//! has a list of its own (`conversions`), and so have the bills (`billings`) and the questions of
-//! dealers (`askings`). An input's number and the seed make it again.
+//! a schedule, limits that are equal in cents alone, and several treaties with one reinsurer
+//! (`edges`, `extremes`, `combinations`, `specialist`, `versions`, `rates`, `ties`, `halves`), then
+//! seeded books of any fund (`books`) and, every seventh each, of a specialist one (`specialist`),
+//! under rates in ten-thousandths (`rates`), with such limits (`ties`) and with such treaties
+//! (`halves`), some of them with faults or damage (`faults`). The converter has a list of its own
+//! (`conversions`), and so have the bills (`billings`) and the questions of dealers (`askings`). An
+//! input's number and the seed make it again.
 
 mod askings;
 mod billings;
@@ -15,6 +16,7 @@ mod conversions;
 mod edges;
 mod extremes;
 mod faults;
+mod halves;
 mod rates;
 mod specialist;
 mod ties;
@@ -26,6 +28,7 @@ pub use books::{lifelike, Parents, Shape};
 pub use conversions::Conversions;
 pub use edges::sample;
 pub use extremes::{largest_report_book, largest_specialist_book, sixteen_tiers};
+pub use halves::all as shared_halves;
 pub use ties::all as near_ties;
 pub use versions::at_desks;
 
@@ -70,6 +73,7 @@ impl Inputs {
         fixed.extend(versions::all());
         fixed.extend(rates::all());
         fixed.extend(ties::all());
+        fixed.extend(halves::all());
         Inputs { seed, fixed }
     }
 
@@ -129,17 +133,18 @@ impl<T: Clone> Listed<T> {
 type Family = fn(&mut Random) -> (RawSchedule, RawBook);
 
 fn family(number: usize) -> Family {
-    match number % 6 {
+    match number % 7 {
         3 => rates::random,
         4 => specialist::random,
         5 => ties::random,
+        6 => halves::random,
         _ => books::random,
     }
 }
 
 /// A book as the report gets it.
 fn of_any_family(random: &mut Random) -> (RawSchedule, RawBook) {
-    let families = [books::random, specialist::random, rates::random, ties::random];
+    let families = [books::random, specialist::random, rates::random, ties::random, halves::random];
     random.pick::<Family>(&families)(random)
 }
 

@@ -20,7 +20,7 @@ pub fn bills_by<R: Rules>(
     rate: u64,
     buffer: &mut [u8],
 ) -> Answer {
-    let accepted = accepted_by(rules, schedule, book);
+    let accepted = accepted_by(rules, schedule, book, TakenFor::Lines);
     let found = [
         accepted.as_ref().err().copied(),
         (!rules.rate_accepted(rate)).then_some(Refusal::CostRate),
@@ -47,7 +47,8 @@ pub struct Served {
 
 /// The same of a schedule and a book; none where one of them is refused.
 pub fn served_of(schedule: &[u8], book: &[u8]) -> Option<Served> {
-    accepted_by(&Documents, schedule, book).ok().map(|accepted| served(&Documents, &accepted))
+    let accepted = accepted_by(&Documents, schedule, book, TakenFor::Lines).ok()?;
+    Some(served(&Documents, &accepted))
 }
 
 fn served<R: Rules>(rules: &R, accepted: &Accepted) -> Served {
@@ -86,11 +87,11 @@ fn served<R: Rules>(rules: &R, accepted: &Accepted) -> Served {
 fn exposure_lines<R: Rules>(rules: &R, book: &Book) -> Vec<ExposureLine> {
     let tops = cascade::tops(rules, book);
     let mut lines = Vec::new();
-    for (asset, place) in book.assets.iter().zip(1..) {
+    let exposures = fund::exposures(rules, book, TakenFor::Bills);
+    for ((asset, place), mut exposures) in book.assets.iter().zip(1..).zip(exposures) {
         if !rules.has_exposure_lines(asset) {
             continue;
         }
-        let mut exposures = fund::exposures(rules, book, asset);
         let remainder = exposures.pop().expect("a remainder");
         let line = |covered, desk, exposure: Exposure| ExposureLine {
             asset: place,

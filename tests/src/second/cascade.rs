@@ -29,17 +29,18 @@ pub fn tops<R: Rules>(rules: &R, book: &Book) -> BTreeMap<Place, Place> {
     book.counterparties.keys().map(top).collect()
 }
 
-pub fn sums<R: Rules>(rules: &R, book: &Book) -> Sums {
+pub fn sums<R: Rules>(rules: &R, book: &Book, taken_for: TakenFor) -> Sums {
     let tops = tops(rules, book);
     let mut sums = Sums::default();
-    for asset in &book.assets {
+    let exposures = fund::exposures(rules, book, taken_for);
+    for (asset, exposures) in book.assets.iter().zip(exposures) {
         // "A linked asset's net is unlimited and its mitigants unread."
         if asset.linked {
             sums.linked += fund::net(rules, asset);
             continue;
         }
         sums.net_of_others += fund::net(rules, asset);
-        for exposure in fund::exposures(rules, book, asset) {
+        for exposure in exposures {
             let counterparty = &book.counterparties[&exposure.counterparty];
             sums.add(rules, &exposure, counterparty, tops[&exposure.counterparty]);
         }

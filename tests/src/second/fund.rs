@@ -54,29 +54,103 @@ pub fn net<R: Rules>(rules: &R, asset: &Asset) -> i128 {
     rules.net(asset, value_or_stressed)
 }
 
-/// The covered parts in order, then the remainder: "Parts and remainder add up to net."
-pub fn exposures<R: Rules>(rules: &R, book: &Book, asset: &Asset) -> Vec<Exposure> {
-    let mut remainder = net(rules, asset);
-    let mut still =
-        rules.may_be_covered(asset, &book.counterparties[&asset.counterparty], remainder);
-    let mut exposures = Vec::new();
+/// The covered parts and the remainder of each asset, by its place: of a linked one, "its mitigants
+/// unread", its net alone.
+pub fn exposures<R: Rules>(rules: &R, book: &Book, taken_for: TakenFor) -> Vec<Vec<Exposure>> {
+    let mut exposures = vec![Vec::new(); book.assets.len()];
+    each_covered(rules, book, taken_for, |at, _, mut parts, covering| {
+        let asset = &book.assets[at];
+        let mut amount = rules.remainder(covering);
+        if asset.linked {
+            parts.clear();
+            amount = covering.net;
+        }
+        let Asset { counterparty, kind, entry, months, .. } = *asset;
+        parts.push(Exposure { counterparty, kind, entry, months, amount });
+        exposures[at] = parts;
+    });
+    exposures
+}
+
+/// Hands each asset, counted from 0, to `each`, with the half that it draws on as it was before, its
+/// covered parts in order, and what they come to.
+pub fn each_covered<R: Rules>(
+    rules: &R,
+    book: &Book,
+    taken_for: TakenFor,
+    mut each: impl FnMut(usize, Option<(HalfName, &Half)>, Vec<Exposure>, &Covering),
+) {
+    let nets: Vec<i128> = book.assets.iter().map(|asset| net(rules, asset)).collect();
+    let mut halves = halves(rules, book, &nets, taken_for);
+    let at = |place: Place| usize::from(place) - 1;
+    let mut order: Vec<Place> = (1..=book.assets.len() as Place).collect();
+    order
+        .sort_by_key(|&place| rules.drawing_order(place, &book.assets[at(place)], nets[at(place)]));
+    for place in order {
+        let (asset, net) = (&book.assets[at(place)], nets[at(place)]);
+        let has_half = rules.has_half(&book.counterparties[&asset.counterparty]);
+        if !(has_half && rules.draws_on_half(asset)) {
+            let may = rules.may_be_covered(asset, net, None);
+            let (parts, covering) = covered(rules, book, asset, net, may);
+            each(at(place), None, parts, &covering);
+            continue;
+        }
+        let name = rules.half_of(book, place, taken_for);
+        let half = halves.entry(name).or_default();
+        half.met += net;
+        let may = rules.may_be_covered(asset, net, Some(half));
+        let (parts, covering) = covered(rules, book, asset, net, may);
+        each(at(place), Some((name, half)), parts, &covering);
+        // A slip may draw more than there is.
+        half.left = (half.left - rules.drawn(&covering)).max(0);
+    }
+}
+
+/// The halves of the reinsurers, before any treaty draws (C-18).
+fn halves<R: Rules>(
+    rules: &R,
+    book: &Book,
+    nets: &[i128],
+    taken_for: TakenFor,
+) -> BTreeMap<HalfName, Half> {
+    let mut halves: BTreeMap<HalfName, Half> = BTreeMap::new();
+    for ((place, asset), &net) in (1..).zip(&book.assets).zip(nets) {
+        let has_half = rules.has_half(&book.counterparties[&asset.counterparty]);
+        if has_half && rules.adds_to_half(book, asset) {
+            let half = halves.entry(rules.half_of(book, place, taken_for)).or_default();
+            half.nets.push(rules.added_to_half(asset, net));
+        }
+    }
+    for half in halves.values_mut() {
+        half.whole = rules.half(&half.nets);
+        half.left = half.whole;
+    }
+    halves
+}
+
+/// The parts of an asset that its recognised mitigants cover, in order, where so much may be
+/// covered, and what that comes to.
+fn covered<R: Rules>(
+    rules: &R,
+    book: &Book,
+    asset: &Asset,
+    net: i128,
+    may: i128,
+) -> (Vec<Exposure>, Covering) {
+    let mut parts = Vec::new();
+    let mut covering = Covering { net, ..Default::default() };
     for mitigant in &asset.mitigants {
         let counterparty = &book.counterparties[&mitigant.counterparty];
         if recognised(rules, mitigant, counterparty, asset.is_reinsurance()) {
-            let amount = rules.covers(mitigant.value, still);
-            still -= amount;
-            remainder -= amount;
-            exposures.push(covered_part(rules, mitigant, counterparty, amount));
+            let amount = rules.covers(mitigant.value, may - covering.covered);
+            covering.recognised += mitigant.value;
+            covering.covered += amount;
+            parts.push(covered_part(rules, mitigant, counterparty, amount));
+        } else {
+            covering.unrecognised += mitigant.value;
         }
     }
-    exposures.push(Exposure {
-        counterparty: asset.counterparty,
-        kind: asset.kind,
-        entry: asset.entry,
-        months: asset.months,
-        amount: remainder,
-    });
-    exposures
+    (parts, covering)
 }
 
 fn covered_part<R: Rules>(
@@ -94,7 +168,7 @@ fn covered_part<R: Rules>(
     }
 }
 
-fn recognised<R: Rules>(
+pub fn recognised<R: Rules>(
     rules: &R,
     mitigant: &Mitigant,
     counterparty: &Counterparty,

@@ -23,7 +23,7 @@ pub fn headroom_by<R: Rules>(
     questions: &[u8],
     buffer: &mut [u8],
 ) -> Answer {
-    let accepted = accepted_by(rules, schedule, book);
+    let accepted = accepted_by(rules, schedule, book, TakenFor::Answers);
     // A book that is refused has no places that a question could be out of.
     let most_place = accepted.as_ref().map_or(Place::MAX, most_place);
     let list = read::questions(rules, questions, most_place);
@@ -156,7 +156,7 @@ fn about_each<T>(
     questions: &[u8],
     each: impl Fn(&Accepted, &Question, About) -> T,
 ) -> Option<Vec<T>> {
-    let accepted = accepted_by(&Documents, schedule, book).ok()?;
+    let accepted = accepted_by(&Documents, schedule, book, TakenFor::Answers).ok()?;
     let list = read::questions(&Documents, questions, most_place(&accepted))?;
     let tops = cascade::tops(&Documents, &accepted.book);
     let about = |question| asked(&Documents, &accepted, &tops, question);

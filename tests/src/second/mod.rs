@@ -1,4 +1,4 @@
-//! A second implementation of document 01, with document 02's requests C-11 and C-13 to C-17,
+//! A second implementation of document 01, with document 02's requests C-11 and C-13 to C-18,
 //! written from the documents and from nothing else.
 //!
 //! It reads bytes into records (`read`), takes values, exposures, tiers and limits from them
@@ -7,13 +7,14 @@
 //! (`bills`), and what more may be bought is found by trying amounts (`headroom`). Amounts are
 //! `i128`, rates and limits exact fractions (`fraction`), so that no bound on them has to be known.
 //! Each sentence that could be got wrong by itself is a method of `rules`; `slip` has the wrong
-//! variants that a comparison must catch.
+//! variants that a comparison must catch. What treaties met as they drew on a half is in `halves`.
 
 mod bills;
 mod cascade;
 mod convert;
 mod fraction;
 mod fund;
+mod halves;
 mod headroom;
 mod read;
 mod records;
@@ -23,6 +24,7 @@ mod write;
 
 pub use bills::{bills, bills_by, served_of, Served};
 pub use convert::{convert, convert_by, rebuilt};
+pub use halves::{halves_of, MetHalves};
 pub use headroom::{headroom, headroom_by, met_of, tried, MetQuestion};
 pub use rules::{Documents, Rules};
 pub use slip::Slip;
@@ -30,7 +32,7 @@ pub use slip::Slip;
 use crate::weightrose::{Answer, Refusal};
 use cascade::Sums;
 use fund::Values;
-use records::{Book, Limit, Line, Schedule, Tier};
+use records::{Book, Limit, Line, Schedule, TakenFor, Tier};
 use std::collections::BTreeMap;
 use write::Figures;
 
@@ -59,7 +61,7 @@ pub fn length(schedule: &[u8], book: &[u8]) -> Option<usize> {
 }
 
 fn bytes_by<R: Rules>(rules: &R, schedule: &[u8], book: &[u8]) -> Result<Vec<u8>, Refusal> {
-    let accepted = accepted_by(rules, schedule, book)?;
+    let accepted = accepted_by(rules, schedule, book, TakenFor::Lines)?;
     Ok(write::report(rules, &accepted.figures, &accepted.groups))
 }
 
@@ -75,14 +77,19 @@ struct Accepted {
     figures: Figures,
 }
 
-fn accepted_by<R: Rules>(rules: &R, schedule: &[u8], book: &[u8]) -> Result<Accepted, Refusal> {
+fn accepted_by<R: Rules>(
+    rules: &R,
+    schedule: &[u8],
+    book: &[u8],
+    taken_for: TakenFor,
+) -> Result<Accepted, Refusal> {
     let schedule = read::schedule(rules, schedule)?;
     let book = read::book(rules, |version| rules.version_passes(version), book)?;
     let values = fund::values(rules, &book);
     if let Some(refusal) = fund::refusal(rules, &book, &values) {
         return Err(refusal);
     }
-    let sums = cascade::sums(rules, &book);
+    let sums = cascade::sums(rules, &book, taken_for);
     let limits = fund::limits(rules, &schedule, book.base, &values, sums.w);
     let groups: Vec<Vec<Line>> = sums
         .groups

@@ -258,6 +258,41 @@ pub enum Kept {
     Nothing,
 }
 
+/// What covered parts and remainders are taken for: the report's lines, the bills, or the answers to
+/// questions.
+#[derive(Clone, Copy, Debug, PartialEq, Eq)]
+pub enum TakenFor {
+    Lines,
+    Bills,
+    Answers,
+}
+
+/// Which half it is: a counterparty's, by its place. The second number is 0, but where a slip has
+/// more than one of them.
+pub type HalfName = (Place, u8);
+
+/// The half of a reinsurer, while its treaties draw on it (C-18).
+#[derive(Clone, Debug, Default)]
+pub struct Half {
+    /// The nets that it is taken of.
+    pub nets: Vec<i128>,
+    /// The sum of those of the treaties met so far.
+    pub met: i128,
+    /// What it is at first, and what of it is not drawn.
+    pub whole: i128,
+    pub left: i128,
+}
+
+/// What mitigants do for an asset.
+#[derive(Clone, Copy, Debug, Default)]
+pub struct Covering {
+    pub net: i128,
+    pub covered: i128,
+    /// The values of those that are recognised, and of the others.
+    pub recognised: i128,
+    pub unrecognised: i128,
+}
+
 /// Part of an asset, as an exposure to one counterparty.
 #[derive(Clone, Debug)]
 pub struct Exposure {

@@ -349,17 +349,58 @@ pub trait Rules {
 
     // Mitigants (P31 to P43).
 
-    /// "That starts at net, or at net/2 rounded down for each reinsurance asset whose counterparty
-    /// is neither of kind 4 nor an approved affiliate."
-    fn may_be_covered(&self, asset: &Asset, counterparty: &Counterparty, net: i128) -> i128 {
-        let in_full = !asset.is_reinsurance()
-            || counterparty.is(CounterpartyKind::RegisteredLifeCompany)
-            || counterparty.approved_affiliate;
-        if in_full {
-            net
-        } else {
-            net / 2
-        }
+    /// "reinsurance asset whose counterparty is neither of kind 4 nor an approved affiliate": whose
+    /// treaties have a half. Of all others each is covered up to its net.
+    fn has_half(&self, counterparty: &Counterparty) -> bool {
+        !counterparty.is(CounterpartyKind::RegisteredLifeCompany)
+            && !counterparty.approved_affiliate
+    }
+
+    /// C-18: "that counterparty's": which half an asset's is, where its counterparty has one.
+    /// "Every figure is compared under this reading from here on."
+    fn half_of(&self, book: &Book, asset: Place, _taken_for: TakenFor) -> HalfName {
+        (book.assets[usize::from(asset) - 1].counterparty, 0)
+    }
+
+    /// C-18: "unlinked reinsurance nets": whether an asset's net is one of them.
+    fn adds_to_half(&self, _book: &Book, asset: &Asset) -> bool {
+        asset.is_reinsurance() && !asset.linked
+    }
+
+    /// C-18: "nets": what an asset adds.
+    fn added_to_half(&self, _asset: &Asset, net: i128) -> i128 {
+        net
+    }
+
+    /// C-18: "The half is now taken of the sum .., rounded down once."
+    fn half(&self, nets: &[i128]) -> i128 {
+        nets.iter().sum::<i128>() / 2
+    }
+
+    /// C-18: "Treaties draw on it". Document 01: "A linked asset's net is unlimited and its
+    /// mitigants unread."
+    fn draws_on_half(&self, asset: &Asset) -> bool {
+        asset.is_reinsurance() && !asset.linked
+    }
+
+    /// C-18: "in book order": the asset with the least is first.
+    fn drawing_order(&self, place: Place, _asset: &Asset, _net: i128) -> i128 {
+        i128::from(place)
+    }
+
+    /// "That starts at net". C-18: "Treaties draw on it .., each up to its own net".
+    fn may_be_covered(&self, _asset: &Asset, net: i128, half: Option<&Half>) -> i128 {
+        half.map_or(net, |half| net.min(half.left))
+    }
+
+    /// C-18: "what their recognised mitigants cover, ..; one without draws nothing."
+    fn drawn(&self, covering: &Covering) -> i128 {
+        covering.covered
+    }
+
+    /// "Parts and remainder add up to net."
+    fn remainder(&self, covering: &Covering) -> i128 {
+        covering.net - covering.covered
     }
 
     /// "each covering the lesser of its value and what may still be covered".

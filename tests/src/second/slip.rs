@@ -2,6 +2,7 @@
 //! documents wrong. A comparison that lets one of them pass shows nothing.
 
 use super::fraction::Fraction;
+use super::fund::recognised;
 use super::records::*;
 use super::rules::{Documents, Rules};
 use crate::weightrose::{Refusal, BILLS, DESKS};
@@ -170,13 +171,61 @@ slips! {
     StressedLessNettedBelow0,
     DeductionsTakenOffVafPrime,
 
-    // Mitigants.
-    LinkedMitigantsTakeNoPlace,
-    HalfRoundedUp,
+    // The half of a reinsurer: who has one, and of what it is taken.
     HalfForAffiliatesToo,
     HalfForRegisteredToo,
+    HalfForUngradedAlone,
+    HalfNotForRelated,
+    HalfNotForSecondLimb,
     HalfForEveryAsset,
+    /// Document 01's own half, which C-18 replaced.
+    HalfOfEachTreaty,
+    HalfOfTheGroup,
+    HalfOfAllReinsurers,
+    HalfByEntryClass,
+    HalfByDesk,
+    HalfRoundedUp,
+    HalvesRoundedPerTreaty,
+    HalvesRoundedUpPerTreaty,
+    HalfOfTheFirstTreaty,
+    HalfOfTheGreatestTreaty,
+    HalfOfMitigatedTreaties,
+    HalfOfCoveredTreaties,
+    HalfOfTreatiesMet,
+    HalfOfWhatIsNotCovered,
+    HalfOfValues,
+    HalfBeforeOffsetsAndDeductions,
+    HalfBeforeOffsets,
+    HalfBeforeDeductions,
+    HalfOfNetsBelow0,
+    HalfOfCombinationStresses,
+    HalfOfASumUpToM,
+    LinkedAddedToTheHalf,
+    OtherKindsAddedToTheHalf,
+    RetrocessionNotAddedToTheHalf,
+
+    // What is drawn on it.
+    LinkedTreatiesDraw,
+    OtherKindsDraw,
+    RetrocessionDrawsNothing,
     RetrocessionCoveredInFull,
+    /// Rounded up: rounded down it is document 01's own half.
+    UpToHalfOfItsOwnNet,
+    CoveredPastItsNet,
+    HalfSharedProRata,
+    DrawnFromTheLastTreaty,
+    GreatestTreatyDrawsFirst,
+    LeastTreatyDrawsFirst,
+    DrawnDeskByDesk,
+    DrawnByMitigantsValues,
+    DrawnByItsNet,
+    DrawnByItsNetWithoutMitigants,
+    UnrecognisedMitigantsDraw,
+    DrawnOnce,
+    NeverDrawn,
+
+    // Mitigants.
+    LinkedMitigantsTakeNoPlace,
     CurrencyNotAsked,
     P35TermsForEveryAsset,
     UngradedDebtRecognised,
@@ -363,6 +412,7 @@ slips! {
     CoveredPartToGuarantorsDesk,
 
     // What is served.
+    BilledByHalvesOfEachTreaty,
     ServedFromTheLastAsset,
     AllPartsBeforeRemainders,
     AllRemaindersBeforeParts,
@@ -441,6 +491,7 @@ slips! {
     WithoutLimitAnswersAll64Bits,
 
     // How much.
+    AnsweredByHalvesOfEachTreaty,
     OwnTierAlone,
     OwnTierNotAsked,
     GroupsTiersAlone,
@@ -1080,23 +1131,141 @@ impl Rules for Slip {
         }
     }
 
-    fn may_be_covered(&self, asset: &Asset, counterparty: &Counterparty, net: i128) -> i128 {
-        let right = Documents.may_be_covered(asset, counterparty, net);
-        let registered = counterparty.is(CounterpartyKind::RegisteredLifeCompany);
-        let halved_too = match self {
-            Slip::HalfRoundedUp if right < net => return net - net / 2,
-            Slip::RetrocessionCoveredInFull if asset.is_retrocession() => return net,
-            Slip::HalfForAffiliatesToo => asset.is_reinsurance() && !registered,
-            Slip::HalfForRegisteredToo => {
-                asset.is_reinsurance() && !counterparty.approved_affiliate
-            }
-            Slip::HalfForEveryAsset => !registered && !counterparty.approved_affiliate,
-            _ => false,
+    fn has_half(&self, counterparty: &Counterparty) -> bool {
+        let right = Documents.has_half(counterparty);
+        match self {
+            Slip::HalfForAffiliatesToo => !counterparty.is(CounterpartyKind::RegisteredLifeCompany),
+            Slip::HalfForRegisteredToo => !counterparty.approved_affiliate,
+            Slip::HalfForUngradedAlone => right && !counterparty.graded(),
+            Slip::HalfNotForRelated => right && !counterparty.related,
+            Slip::HalfNotForSecondLimb => right && !counterparty.second_limb,
+            _ => right,
+        }
+    }
+
+    fn half_of(&self, book: &Book, asset: Place, taken_for: TakenFor) -> HalfName {
+        let right = Documents.half_of(book, asset, taken_for);
+        let own = &book.assets[usize::from(asset) - 1];
+        let of_treaty = matches!(
+            (self, taken_for),
+            (Slip::HalfOfEachTreaty, _)
+                | (Slip::BilledByHalvesOfEachTreaty, TakenFor::Bills)
+                | (Slip::AnsweredByHalvesOfEachTreaty, TakenFor::Answers)
+        );
+        match self {
+            _ if of_treaty => (asset, 0),
+            Slip::HalfOfTheGroup => (Documents.topmost(&book.counterparties, right.0), 0),
+            Slip::HalfOfAllReinsurers => (0, 0),
+            Slip::HalfByEntryClass => (right.0, own.entry.map_or(0, |entry| 1 + entry as u8)),
+            Slip::HalfByDesk => (right.0, own.desk),
+            _ => right,
+        }
+    }
+
+    fn adds_to_half(&self, book: &Book, asset: &Asset) -> bool {
+        let right = Documents.adds_to_half(book, asset);
+        let recognised = |mitigant: &Mitigant| {
+            let counterparty = &book.counterparties[&mitigant.counterparty];
+            recognised(&Documents, mitigant, counterparty, true)
         };
-        if halved_too {
-            net / 2
-        } else {
-            right
+        match self {
+            Slip::LinkedAddedToTheHalf => asset.is_reinsurance(),
+            Slip::HalfForEveryAsset | Slip::OtherKindsAddedToTheHalf => !asset.linked,
+            Slip::RetrocessionNotAddedToTheHalf | Slip::RetrocessionCoveredInFull => {
+                right && !asset.is_retrocession()
+            }
+            Slip::HalfOfMitigatedTreaties => right && !asset.mitigants.is_empty(),
+            Slip::HalfOfCoveredTreaties => right && asset.mitigants.iter().any(recognised),
+            _ => right,
+        }
+    }
+
+    fn added_to_half(&self, asset: &Asset, net: i128) -> i128 {
+        let stressed = Documents.stressed(asset);
+        let Asset { offsets, deductions, combination_stress, .. } = *asset;
+        match self {
+            Slip::HalfOfValues => asset.value,
+            Slip::HalfBeforeOffsetsAndDeductions => stressed,
+            Slip::HalfBeforeOffsets => (stressed - deductions).max(0),
+            Slip::HalfBeforeDeductions => (stressed - offsets).max(0),
+            Slip::HalfOfNetsBelow0 => stressed - offsets - deductions,
+            Slip::HalfOfCombinationStresses => Documents.net(asset, combination_stress),
+            _ => net,
+        }
+    }
+
+    fn half(&self, nets: &[i128]) -> i128 {
+        let sum: i128 = nets.iter().sum();
+        match self {
+            Slip::HalfRoundedUp => (sum + 1) / 2,
+            Slip::HalvesRoundedPerTreaty => nets.iter().map(|net| net / 2).sum(),
+            Slip::HalvesRoundedUpPerTreaty => nets.iter().map(|net| (net + 1) / 2).sum(),
+            Slip::HalfOfTheFirstTreaty => nets[0] / 2,
+            Slip::HalfOfTheGreatestTreaty => nets.iter().max().map_or(0, |net| net / 2),
+            Slip::HalfOfNetsBelow0 => sum.max(0) / 2,
+            Slip::HalfOfASumUpToM => sum.min(MOST) / 2,
+            _ => Documents.half(nets),
+        }
+    }
+
+    fn draws_on_half(&self, asset: &Asset) -> bool {
+        let right = Documents.draws_on_half(asset);
+        match self {
+            Slip::LinkedTreatiesDraw => asset.is_reinsurance(),
+            Slip::HalfForEveryAsset | Slip::OtherKindsDraw => !asset.linked,
+            Slip::RetrocessionDrawsNothing | Slip::RetrocessionCoveredInFull => {
+                right && !asset.is_retrocession()
+            }
+            _ => right,
+        }
+    }
+
+    fn drawing_order(&self, place: Place, asset: &Asset, net: i128) -> i128 {
+        match self {
+            Slip::DrawnFromTheLastTreaty => -i128::from(place),
+            Slip::GreatestTreatyDrawsFirst => -net,
+            Slip::LeastTreatyDrawsFirst => net,
+            Slip::DrawnDeskByDesk => i128::from(asset.desk),
+            _ => Documents.drawing_order(place, asset, net),
+        }
+    }
+
+    fn may_be_covered(&self, asset: &Asset, net: i128, half: Option<&Half>) -> i128 {
+        let right = Documents.may_be_covered(asset, net, half);
+        let Some(half) = half else {
+            return right;
+        };
+        let drawn = half.whole - half.left;
+        let sum: i128 = half.nets.iter().sum();
+        match self {
+            Slip::OtherKindsDraw if !asset.is_reinsurance() => net,
+            Slip::UpToHalfOfItsOwnNet => right.min((net + 1) / 2),
+            Slip::CoveredPastItsNet => half.left,
+            Slip::HalfSharedProRata if sum > 0 => half.whole * net / sum,
+            Slip::HalfOfTreatiesMet => net.min((half.met / 2 - drawn).max(0)),
+            Slip::HalfOfWhatIsNotCovered => net.min((sum - drawn) / 2),
+            _ => right,
+        }
+    }
+
+    fn drawn(&self, covering: &Covering) -> i128 {
+        let right = Documents.drawn(covering);
+        let Covering { net, covered, recognised, unrecognised } = *covering;
+        match self {
+            Slip::DrawnByMitigantsValues => recognised,
+            Slip::DrawnByItsNet if recognised > 0 => net,
+            Slip::DrawnByItsNetWithoutMitigants => net,
+            Slip::UnrecognisedMitigantsDraw => covered + unrecognised.min(net - covered),
+            Slip::DrawnOnce if covered > 0 => 1_000_000 * MOST,
+            Slip::NeverDrawn => 0,
+            _ => right,
+        }
+    }
+
+    fn remainder(&self, covering: &Covering) -> i128 {
+        match self {
+            Slip::CoveredPastItsNet => Documents.remainder(covering).max(0),
+            _ => Documents.remainder(covering),
         }
     }
 

@@ -1,90 +1,112 @@
 -- `cover`: what is to come, run on the tables as they are, gives what all of it gives on those of the start.
 use denote.Ref.{now}
 use Prim.Native.Nat.{_+_, _-_, _/_, _≤_, _<_}
-use lib.ListN.{length}
-use Rattle.book.specs.Records.{K}
+use lib.ListN.{length, getD}
 use native.Mathlib.Omega.{arith}
-use Rattle.covering.proofs.Running.{Running, running-start, running-step, running-end, own-inside, own-odd, caps-inside, rests-inside}
+use Rattle.wire.specs.Bytes.{M}
+use Rattle.book.specs.Records.{K, assetAt}
+use Rattle.covering.proofs.Run.{still-le, still-half}
+use Rattle.covering.proofs.Running.{Running, running-start, running-step, running-end, own-inside, own-odd, draws-inside, on-inside, halves-inside, rests-inside, rest-fits}
 use borrow.Author.Needs.{needs}
 use Rattle.covering.proofs.cover.Statement.{statement}
 use Rattle.covering.proofs.cover.Tie as tie
 
 abbrev Inv-loop : tie.InvT-loop
-Inv-loop b start k terms starts caps₀ rests₀ covered₀ own₀ place₀ caps rests covered own place = Running b starts covered₀ caps₀ rests₀ covered caps rests own place
+Inv-loop b start k terms starts draws halves₀ rests₀ covered₀ own₀ place₀ halves rests covered own place = Running b starts draws covered₀ halves₀ rests₀ covered halves rests own place
 
 abbrev μ-loop : tie.MeasureT-loop
-μ-loop b start k terms starts caps₀ rests₀ covered₀ own₀ place₀ caps rests covered own place = k + 1 - place
+μ-loop b start k terms starts draws halves₀ rests₀ covered₀ own₀ place₀ halves rests covered own place = k + 1 - place
 
 loop-holds : tie.Need-loop-holds Inv-loop μ-loop
-loop-holds c =
-    let s = c .before .before .before .before .before .before in
-    running-start (now (s .args .b)) (now (s .args .starts)) (now (s .args .covered)) (now (s .args .caps)) (now (s .args .rests)) (s .pre .4)
+loop-holds c = let s = c .before .before .before .before .before .before .before in running-start (s .pre .0) (s .pre .4)
 
--- once the mitigant's owner is read: its place, and the asset's, are inside the tables
+-- once the mitigant's owner is read: its place, the asset's, and whose half that draws on, are inside the tables
 record At (c : tie.After-owner-at Inv-loop μ-loop) : Type 0 where
-  place : c .before .before .loop .place ≤ K (now (c .before .before .before .before .before .before .before .before .before .args .b))
+  place : c .before .before .loop .place ≤ K (now (c .before .before .before .before .before .before .before .before .before .before .args .b))
   own : c .owner-at .result / 2 ≤ 900
-  caps : c .owner-at .result / 2 < length (c .before .before .loop .caps)
+  draws : c .owner-at .result / 2 < length (now (c .before .before .before .before .before .before .before .before .before .before .args .draws))
+  on : getD (now (c .before .before .before .before .before .before .before .before .before .before .args .draws)) (c .owner-at .result / 2) 0 ≤ 500
+  halves : getD (now (c .before .before .before .before .before .before .before .before .before .before .args .draws)) (c .owner-at .result / 2) 0 < length (c .before .before .loop .halves)
   rests : c .owner-at .result / 2 < length (c .before .before .loop .rests)
+  fits : getD (c .before .before .loop .rests) (c .owner-at .result / 2) 0 ≤ M
 
 at : (c : tie.After-owner-at Inv-loop μ-loop) → At c
 at c =
-    let s = c .before .before .before .before .before .before .before .before .before in
+    let s = c .before .before .before .before .before .before .before .before .before .before in
     let k = c .before .before .loop .inv in
-    let t = c .before .loop-test .taken in
     let h : c .before .before .loop .place ≤ K (now (s .args .b)) = omega (arith, s .pre .2) in
     let e = c .owner-at .ensures in
     record {
       place = h;
       own = omega (arith, own-inside k (s .pre .0) (s .pre .4) h e, s .pre .0 .assets);
-      caps = caps-inside k (s .pre .0) (s .pre .4) h e;
+      draws = draws-inside k (s .pre .0) (s .pre .4) h e;
+      on = omega (arith, on-inside k (s .pre .0) (s .pre .4) h e, s .pre .0 .counterparties);
+      halves = halves-inside k (s .pre .0) (s .pre .4) h e;
       rests = rests-inside k (s .pre .0) (s .pre .4) h e;
+      fits = rest-fits k (s .pre .0) (s .pre .4) h e;
     }
 
-mul-still : tie.Need-mul-still Inv-loop μ-loop
-mul-still c = omega (arith, at c .own)
+-- what may still be covered is no more than is left of the asset
+still-fits : (c : tie.After-still-of Inv-loop μ-loop) → c .still-of .result ≤ getD (c .before .before .before .before .before .before .loop .rests) (c .before .before .before .before .owner-at .result / 2) 0
+still-fits c = rw (c .still-of .ensures) (still-le _ _ _)
 
-slice-read-still : tie.Need-slice-read-still Inv-loop μ-loop
-slice-read-still c = at (c .before) .caps
+-- and of a half no more than is left of it
+still-drawn : (c : tie.After-still-of Inv-loop μ-loop) → 0 < getD (now (c .before .before .before .before .before .before .before .before .before .before .before .before .before .before .args .draws)) (c .before .before .before .before .owner-at .result / 2) 0
+    → c .still-of .result ≤ getD (c .before .before .before .before .before .before .loop .halves) (getD (now (c .before .before .before .before .before .before .before .before .before .before .before .before .before .before .args .draws)) (c .before .before .before .before .owner-at .result / 2) 0) 0
+still-drawn c l = rw (c .still-of .ensures) (still-half _ _ _ l)
+
+mul-on : tie.Need-mul-on Inv-loop μ-loop
+mul-on c = omega (arith, at c .own)
+
+shared-slice-read-on : tie.Need-shared-slice-read-on Inv-loop μ-loop
+shared-slice-read-on c = at (c .before) .draws
+
+cast-on : tie.Need-cast-on Inv-loop μ-loop
+cast-on c = omega (arith, at (c .before) .on)
+
+mul-rest : tie.Need-mul-rest Inv-loop μ-loop
+mul-rest c = omega (arith, at (c .before) .own)
+
+slice-read-rest : tie.Need-slice-read-rest Inv-loop μ-loop
+slice-read-rest c = at (c .before .before) .rests
+
+mul-still-of : tie.Need-mul-still-of Inv-loop μ-loop
+mul-still-of c = omega (arith, at (c .before .before) .on)
+
+slice-read-still-of : tie.Need-slice-read-still-of Inv-loop μ-loop
+slice-read-still-of c = at (c .before .before .before) .halves
 
 part-at-requires : tie.Need-part-at-requires Inv-loop μ-loop
 part-at-requires c κs =
-    let s = c .before .before .before .before .before .before .before .before .before .before in
-    let k = c .before .before .before .loop .inv in
-    (s .pre .0, s .pre .1, k .started, at (c .before) .place, omega arith, s .pre .3, k .fit (c .before .owner-at .result / 2) .1)
+    let s = c .before .before .before .before .before .before .before .before .before .before .before .before .before .before in
+    let k = c .before .before .before .before .before .before .loop .inv in
+    let a = at (c .before .before .before .before) in
+    (s .pre .0, s .pre .1, k .started, a .place, omega arith, s .pre .3, omega (arith, still-fits c, a .fits))
 
-sub-caps : tie.Need-sub-caps Inv-loop μ-loop
-sub-caps c = omega (arith, c .part-at .ensures .1)
-
-mul-caps : tie.Need-mul-caps Inv-loop μ-loop
-mul-caps c = omega (arith, at (c .before .before) .own)
-
-slice-write-caps : tie.Need-slice-write-caps Inv-loop μ-loop
-slice-write-caps c = at (c .before .before) .caps
-
-mul-rests : tie.Need-mul-rests Inv-loop μ-loop
-mul-rests c = omega (arith, at (c .before .before) .own)
-
-slice-read-rests : tie.Need-slice-read-rests Inv-loop μ-loop
-slice-read-rests c = at (c .before .before .before) .rests
+draw-requires : tie.Need-draw-requires Inv-loop μ-loop
+draw-requires c κs =
+    (at (c .before .before .before .before .before .before) .halves, λ l. omega (arith, c .before .part-at .ensures .1, still-drawn (c .before .before) l))
 
 sub-rests : tie.Need-sub-rests Inv-loop μ-loop
-sub-rests c = omega (arith, c .before .part-at .ensures .1, c .before .before .before .before .before .loop .inv .fit (c .before .before .before .owner-at .result / 2) .0)
+sub-rests c = omega (arith, c .before .before .before .before .part-at .ensures .1, still-fits (c .before .before .before .before .before))
+
+mul-rests : tie.Need-mul-rests Inv-loop μ-loop
+mul-rests c = omega (arith, at (c .before .before .before .before .before .before .before .before .before) .own)
 
 slice-write-rests : tie.Need-slice-write-rests Inv-loop μ-loop
-slice-write-rests c = at (c .before .before .before) .rests
+slice-write-rests c = at (c .before .before .before .before .before .before .before .before .before) .rests
 
 loop-again : tie.Need-loop-again Inv-loop μ-loop
 loop-again c =
-    let s = c .before .before .before .before .before .before .before .before .before .before .before .before in
-    let k = c .before .before .before .before .before .loop .inv in
-    let h = at (c .before .before .before) .place in
-    let e = c .before .before .before .owner-at .ensures in
-    let part = c .before .part-at .ensures in
-    running-step k (s .pre .0) (s .pre .4) h e (part .0 _ (own-odd k (s .pre .0) (s .pre .4) h e)) (part .1)
+    let s = c .before .before .before .before .before .before .before .before .before .before .before .before .before .before .before .before .before .before .before in
+    let k = c .before .before .before .before .before .before .before .before .before .before .before .loop .inv in
+    let h = at (c .before .before .before .before .before .before .before .before .before) .place in
+    let e = c .before .before .before .before .before .before .before .before .before .owner-at .ensures in
+    let part = c .before .before .before .before .part-at .ensures .0 (assetAt (now (s .args .b)) (c .before .before .before .before .before .before .before .before .before .owner-at .result / 2)) (own-odd k (s .pre .0) (s .pre .4) h e) in
+    rw (c .before .before .draw .ensures) (running-step k (s .pre .0) (s .pre .4) h e (rw (c .before .before .before .before .before .still-of .ensures) at part))
 
 same-length : tie.Need-same-length Inv-loop μ-loop
-same-length c = c .before .loop .inv .caps-size
+same-length c = c .before .loop .inv .halves-size
 
 same-length-2 : tie.Need-same-length-2 Inv-loop μ-loop
 same-length-2 c = c .before .loop .inv .rests-size
@@ -93,7 +115,7 @@ same-length-3 : tie.Need-same-length-3 Inv-loop μ-loop
 same-length-3 c = c .before .loop .inv .covered-size
 
 returns : tie.Need-returns Inv-loop μ-loop
-returns c = let s = c .before .before .before .before .before .before .before .before in running-end (c .before .loop .inv) (s .pre .0) (s .pre .4) (omega (arith, s .pre .2))
+returns c = let s = c .before .before .before .before .before .before .before .before .before in running-end (c .before .loop .inv) (s .pre .0) (s .pre .4) (omega (arith, s .pre .2))
 
 pub cover-spec : {M : Type 1} → statement M
 cover-spec =
@@ -103,15 +125,18 @@ cover-spec =
     μ-loop
     loop-holds
     (λ c κs. search needs)
-    mul-still
-    slice-read-still
+    mul-on
+    shared-slice-read-on
+    cast-on
+    mul-rest
+    slice-read-rest
+    mul-still-of
+    slice-read-still-of
+    (λ c κs. search needs)
     part-at-requires
-    sub-caps
-    mul-caps
-    slice-write-caps
-    mul-rests
-    slice-read-rests
+    draw-requires
     sub-rests
+    mul-rests
     slice-write-rests
     (λ c. search needs)
     (λ c. search needs)

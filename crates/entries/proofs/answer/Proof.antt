@@ -9,16 +9,16 @@ use Rattle.entries.proofs.answer.Tie as tie
 
 finish-requires : tie.Need-finish-requires
 finish-requires c κs =
-    let s = c .before .before .before .before .before .before .before .before .before .before .before .before .before .before .before .before .before .before .before .before .before .before .before .before .before .before .before .before .before .before .before .before .before .before .before .before .before .before .before .before .before .before .before .before in
+    let s = c .before .before .before .before .before .before .before .before .before .before .before .before .before .before .before .before .before .before .before .before .before .before .before .before .before .before .before .before .before .before .before .before .before .before .before .before .before .before .before .before .before .before .before .before .before .before .before .before in
     let p = s .pre in
-    let k = c .before .before .before .before .before .before .before .before .before .before .before .before .before .before .before .before .before .before .before .before .before .make in
+    let k = c .before .before .before .before .before .before .before .before .before .before .before .before .before .before .before .before .before .before .before .before .before .before .before .make in
     let fine = made-fine (now (s .args .schedule)) (now (s .args .book)) (k .result) (k .ensures .1) (c .before .before .before .before .before .before .before .enum-told .given .1) in
     (fund-tables (p .0) (p .1) (p .2) (p .4) (p .5) (k .ensures .0) (fine .0) (fine .1), p .3, p .6)
 
 returns : tie.Need-returns
 returns c =
-    let s = c .before .before .before .before .before .before .before .before .before .before .before .before .before .before .before .before .before .before .before .before .before .before .before .before .before .before .before .before .before .before .before .before .before .before .before .before .before .before in
-    let k = c .before .before .before .before .before .before .before .before .before .before .before .before .before .before .before .make in
+    let s = c .before .before .before .before .before .before .before .before .before .before .before .before .before .before .before .before .before .before .before .before .before .before .before .before .before .before .before .before .before .before .before .before .before .before .before .before .before .before .before .before .before .before in
+    let k = c .before .before .before .before .before .before .before .before .before .before .before .before .before .before .before .before .before .make in
     let bad = made-bad (now (s .args .schedule)) (now (s .args .book)) (k .result) (k .ensures .1) (c .before .found .given .1) in
     bad-fund (now (s .args .schedule)) (now (s .args .book)) (now (s .args .asked)) (now (s .args .lent)) (s .args .wanted) (s .pre .0) bad
 
@@ -36,7 +36,9 @@ answer-spec =
     (λ c. search needs)
     (λ c. search needs)
     (λ c. search needs)
+    (λ c. search needs)
     returns
+    (λ c. search needs)
     (λ c. search needs)
     (λ c. search needs)
     (λ c. search needs)

@@ -17,21 +17,21 @@ fill-requires c κs =
 
 few-requires : tie.Need-few-requires
 few-requires c κs =
-    let s = c .before .before .before .before .before .before .before .before .before .before .before .before .before .before .before .before .before .before .before .before .before .before .before .before .before .before in
+    let s = c .before .before .before .before .before .before .before .before .before .before .before .before .before .before .before .before .before .before .before .before .before .before .before .before .before .before .before in
     let B = now (s .args .book) in
     let a = taken (s .pre .0) in
     let r = zero-parties (C B) 500 (a .counterparties) in
-    let f = filled (s .pre .1) (c .before .before .before .before .before .before .before .before .before .before .before .before .before .before .before .before .fill .ensures) in
-    (s .pre .0, f .count, parties-of r f, record { before = replicate (500 + 1) 0; room = r .heads-size; stored = f .of-heads }, zero-lent B 900 1500 (a .assets) (a .mitigants), c .before .before .before .before .before .before .before .before .before .before .if1 .taken)
+    let f = filled (s .pre .1) (c .before .before .before .before .before .before .before .before .before .before .before .before .before .before .before .before .before .fill .ensures) in
+    (s .pre .0, f .count, parties-of r f, record { before = replicate (500 + 1) 0; room = r .heads-size; stored = f .of-heads }, zero-lent B 500 900 1500 (a .counterparties) (a .assets) (a .mitigants), c .before .before .before .before .before .before .before .before .before .before .before .if1 .taken)
 
 many-requires : tie.Need-many-requires
 many-requires c κs =
-    let s = c .before .before .before .before .before .before .before .before .before .before .before .before .before .before .before .before .before .before .before .before .before .before .before .before .before .before in
+    let s = c .before .before .before .before .before .before .before .before .before .before .before .before .before .before .before .before .before .before .before .before .before .before .before .before .before .before .before in
     let B = now (s .args .book) in
     let a = taken (s .pre .0) in
     let r = zero-parties (C B) 500 (a .counterparties) in
-    let f = filled (s .pre .1) (c .before .before .before .before .before .before .before .before .before .before .before .before .before .before .before .before .fill .ensures) in
-    (s .pre .0, f .count, parties-of r f, record { before = replicate (500 + 1) 0; room = r .heads-size; stored = f .of-heads }, zero-lent B 900 1500 (a .assets) (a .mitigants))
+    let f = filled (s .pre .1) (c .before .before .before .before .before .before .before .before .before .before .before .before .before .before .before .before .before .fill .ensures) in
+    (s .pre .0, f .count, parties-of r f, record { before = replicate (500 + 1) 0; room = r .heads-size; stored = f .of-heads }, zero-lent B 500 900 1500 (a .counterparties) (a .assets) (a .mitigants))
 
 pub large-spec : {M : Type 1} → statement M
 large-spec =
@@ -52,7 +52,9 @@ large-spec =
     (λ c. search needs)
     (λ c. search needs)
     (λ c. search needs)
+    (λ c. search needs)
     few-requires
+    (λ c. search needs)
     (λ c. search needs)
     (λ c. search needs)
     (λ c. search needs)

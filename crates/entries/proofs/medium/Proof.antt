@@ -17,14 +17,14 @@ fill-requires c κs =
 
 answer-requires : tie.Need-answer-requires
 answer-requires c κs =
-    let s = c .before .before .before .before .before .before .before .before .before .before .before .before .before .before .before .before .before .before .before .before .before .before .before .before .before .before .before .before in
+    let s = c .before .before .before .before .before .before .before .before .before .before .before .before .before .before .before .before .before .before .before .before .before .before .before .before .before .before .before .before .before in
     let B = now (s .args .book) in
     let w = s .pre .2 in
-    let q = c .before .before .before .before .before .before .before .before .before .before .before .before .before .before .before .before .before .before .fill .ensures in
+    let q = c .before .before .before .before .before .before .before .before .before .before .before .before .before .before .before .before .before .before .before .fill .ensures in
     let r = zero-parties (C B) 128 (w .counterparties) in
     let f = filled (s .pre .1) q in
     let few = groups-le B (f .count) in
-    (s .pre .0, f .count, parties-of r f, record { before = replicate (128 + 1) 0; room = r .heads-size; stored = f .of-heads }, zero-lent B (4 * 128) (4 * 128) (w .assets) (w .mitigants), zero-cells _ 128 (omega (arith, w .counterparties)), zero-room _ 128 (omega (arith, w .counterparties)))
+    (s .pre .0, f .count, parties-of r f, record { before = replicate (128 + 1) 0; room = r .heads-size; stored = f .of-heads }, zero-lent B 128 (4 * 128) (4 * 128) (w .counterparties) (w .assets) (w .mitigants), zero-cells _ 128 (omega (arith, w .counterparties)), zero-room _ 128 (omega (arith, w .counterparties)))
 
 pub medium-spec : {M : Type 1} → statement M
 medium-spec =
@@ -36,6 +36,7 @@ medium-spec =
     (λ c. search needs)
     (λ c. search needs)
     fill-requires
+    (λ c. search needs)
     (λ c. search needs)
     (λ c. search needs)
     (λ c. search needs)

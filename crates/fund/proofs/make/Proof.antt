@@ -5,59 +5,33 @@ use Rattle.fund.proofs.Drawing.{exposed}
 use borrow.Author.Needs.{needs}
 use Rattle.fund.proofs.make.Statement.{statement}
 use Rattle.fund.proofs.make.Tie as tie
-use Rattle.fund.proofs.make.Reads as reads
-use Rattle.fund.proofs.make.Lts as lts
-use Rattle.fund.proofs.draw.Reads as draw-reads
-use Rattle.fund.proofs.rate.Reads as rate-reads
-use Rattle.fund.proofs.refused.Reads as refused-reads
-use Rattle.values.proofs.check.Reads as check-reads
 
--- src/lib.rt:153:9
 draw-requires : tie.Need-draw-requires
 draw-requires c κs =
-    let s = c .before .before .before .before .before .before .before .before .before .before .before .before .before .before .before .before .before in (taken (s .pre .0), s .pre .1, s .pre .2, s .pre .3, s .pre .4)
+    let s = c .before .before .before .before .before .before .before .before .before .before .before .before .before .before .before .before .before .before .before in (taken (s .pre .0), s .pre .1, s .pre .2, s .pre .3, s .pre .4)
 
--- src/lib.rt:158:9
 check-requires : tie.Need-check-requires
 check-requires c κs =
-    let s = c .before .before .before .before .before .before .before .before .before .before .before .before .before .before .before .before .before .before .before .before .before .before .before .before .before .before .before .before .before .before .before .before in (taken (s .pre .0), c .before .before .before .before .before .before .before .before .before .before .before .before .before .before .draw .ensures .1 .of-assets)
+    let s = c .before .before .before .before .before .before .before .before .before .before .before .before .before .before .before .before .before .before .before .before .before .before .before .before .before .before .before .before .before .before .before .before .before .before .before .before in (taken (s .pre .0), c .before .before .before .before .before .before .before .before .before .before .before .before .before .before .before .before .draw .ensures .1 .of-assets)
 
--- src/lib.rt:160:22
--- src/lib.rt:160:30
--- src/lib.rt:161:69
 enum-told : tie.Need-enum-told
 enum-told c = search needs
 
--- src/lib.rt:161:26
 rate-requires : tie.Need-rate-requires
 rate-requires c κs =
-    let s = c .before .before .before .before .before .before .before .before .before .before .before .before .before .before .before .before .before .before .before .before .before .before .before .before .before .before .before .before .before .before .before .before .before .before .before .before in
-    let t = c .before .before .before .before .before .before .before .before .before .before .before .before .before .before .before .before .before .before .draw .ensures in
+    let s = c .before .before .before .before .before .before .before .before .before .before .before .before .before .before .before .before .before .before .before .before .before .before .before .before .before .before .before .before .before .before .before .before .before .before .before .before .before .before .before .before in
+    let t = c .before .before .before .before .before .before .before .before .before .before .before .before .before .before .before .before .before .before .before .before .draw .ensures in
     (s .pre .0, sym (c .before .before .before .check .ensures) ∙ c .before .enum-told .given .1, s .pre .1, t .1, exposed (t .0) (s .pre .4))
 
--- src/lib.rt:135:1
--- src/lib.rt:135:1
--- src/lib.rt:135:1
--- src/lib.rt:135:1
--- src/lib.rt:135:1
--- src/lib.rt:135:1
--- src/lib.rt:135:1
 returns : tie.Need-returns
 returns c =
-    let t = c .before .before .before .before .before .before .before .before .before .before .before .before .before .before .before .before .before .before .before .draw .ensures in
+    let t = c .before .before .before .before .before .before .before .before .before .before .before .before .before .before .before .before .before .before .before .before .before .draw .ensures in
     let e = sym (c .before .before .before .before .check .ensures) ∙ c .before .before .found .given .1 in
     (t .0, rw e (c .refused .ensures))
 
--- src/lib.rt:135:1
--- src/lib.rt:135:1
--- src/lib.rt:135:1
--- src/lib.rt:135:1
--- src/lib.rt:135:1
--- src/lib.rt:135:1
--- src/lib.rt:135:1
 returns-2 : tie.Need-returns-2
 returns-2 c =
-    let t = c .before .before .before .before .before .before .before .before .before .before .before .before .before .before .before .before .before .before .before .draw .ensures in
+    let t = c .before .before .before .before .before .before .before .before .before .before .before .before .before .before .before .before .before .before .before .before .before .draw .ensures in
     let e = sym (c .before .before .before .before .check .ensures) ∙ c .before .before .enum-told .given .1 in
     (t .0, rw e (c .rate .ensures))
 
@@ -77,7 +51,9 @@ make-spec =
     (λ c. search needs)
     (λ c. search needs)
     (λ c. search needs)
+    (λ c. search needs)
     returns
+    (λ c. search needs)
     (λ c. search needs)
     (λ c. search needs)
     (λ c. search needs)
