@@ -1,20 +1,19 @@
 -- Laws of an asset's parts.
 --   covers-le covered-le drawn-le       no more is covered than may be
 --   may-le may-left                     no more than the net, and of a treaty with a half no more than is left of it
---   left-exact left-falls               a half is drawn down by what is covered, to no less than 0; none grows
---   drawnFrom half-most                 what all treaties draw on one half, and that it is no more than the half
+--   left-exact                          a half is drawn down by just what is covered, to no less than 0
 --   parts-sum parts-net                 "Parts and remainder add up to net"
 --   linked-none                         a linked asset gives none
 --   drawing-sum                         sums over all holdings, where they agree at each
-use mathlib.Core.Bool.{Bool, true, false, _&&_}
+use mathlib.Core.Bool.{true, false}
 use mathlib.Core.List.{List, [], _∷_}
 use mathlib.Core.Path.{_≡_, refl}
 use Prim.Native.Nat.{ℕ, _+_, _-_, _≤_}
 use native.Mathlib.Omega.{arith}
-use borrow.Author.Tests.{eq-eqb, eqb-true}
-use Rattle.words.specs.Words.{_=?_, if_then_else_, sumOf}
+use borrow.Author.Tests.{eq-eqb}
+use Rattle.words.specs.Words.{sumOf}
 use Rattle.words.specs.Sums.{sum-append}
-use Rattle.words.specs.Choice.{both, if-le}
+use Rattle.words.specs.Choice.{if-le}
 use Rattle.book.specs.declared.Counterparty.{Counterparty}
 use Rattle.book.specs.declared.Asset.{Asset}
 use Rattle.book.specs.declared.Mitigant.{Mitigant}
@@ -22,7 +21,7 @@ use Rattle.book.specs.Fields.{linked}
 use Rattle.book.specs.Book.{Holding}
 use Rattle.exposure.specs.declared.Exposure.{Exposure}
 use Rattle.exposure.specs.Values.{net}
-use Rattle.exposure.specs.Parts.{recognised, covers, halfCovered, halfOf, mayBeCovered, coveredBy, coveredOf, together, drawnBy, leftAfter, coveredPart, remainder, partsOf, exposuresOf, eachDrawing}
+use Rattle.exposure.specs.Parts.{recognised, covers, halfCovered, mayBeCovered, coveredBy, coveredOf, together, drawnBy, leftAfter, coveredPart, remainder, partsOf, exposuresOf, eachDrawing}
 
 abbrev amount : Exposure → ℕ
 amount x = x .amount
@@ -56,38 +55,6 @@ module _ (cs : ℕ → Counterparty) (left : ℕ → ℕ) where
       → leftAfter cs left h (h .asset .counterparty) + drawnBy cs left h ≡ left (h .asset .counterparty)
   unfolding leftAfter
   left-exact h e = rw (e, eq-eqb (h .asset .counterparty) (h .asset .counterparty) refl) (omega (arith, drawn-le h, may-left (h .asset) e))
-
-  pub left-falls : (h : Holding) (place : ℕ) → leftAfter cs left h place ≤ left place
-  unfolding leftAfter
-  left-falls h place = if-le (halfCovered (h .asset) (cs (h .asset .counterparty)) && h .asset .counterparty =? place) (omega arith) (omega arith)
-
--- what holdings draw on the half of the counterparty at a place
-unfoldable pub drawnFrom : (ℕ → Counterparty) → (ℕ → ℕ) → ℕ → List Holding → ℕ
-drawnFrom cs left place [] = 0
-drawnFrom cs left place (h ∷ hs) =
-    (if halfCovered (h .asset) (cs (h .asset .counterparty)) && h .asset .counterparty =? place then drawnBy cs left h else 0)
-    + drawnFrom cs (leftAfter cs left h) place hs
-
-drawn-most : (cs : ℕ → Counterparty) (place : ℕ) (hs : List Holding) (left : ℕ → ℕ) → drawnFrom cs left place hs ≤ left place
-unfolding drawnFrom
-drawn-most cs place [] left = omega arith
-drawn-most cs place (h ∷ hs) left = omega (arith, by (halved && who =? place) refl, drawn-most cs place hs (leftAfter cs left h))
-  where
-    who : ℕ
-    who = h .asset .counterparty
-
-    halved : Bool
-    halved = halfCovered (h .asset) (cs who)
-
-    by : (t : Bool) → (halved && who =? place) ≡ t → (if t then drawnBy cs left h else 0) + leftAfter cs left h place ≤ left place
-    by true e =
-        let d = both halved (who =? place) e in
-        rw (← eqb-true who place (d .1)) (omega (arith, left-exact cs left h (d .0)))
-    by false e = omega (arith, left-falls cs left h place)
-
--- "Half of everything with a reinsurer": its treaties are covered for no more, all together
-pub half-most : (cs : ℕ → Counterparty) (place : ℕ) (hs : List Holding) → drawnFrom cs (halfOf hs) place hs ≤ halfOf hs place
-half-most cs place hs = drawn-most cs place hs (halfOf hs)
 
 pub parts-sum : (cs : ℕ → Counterparty) (a : Asset) (ms : List Mitigant) (still rest : ℕ) → still ≤ rest → sumOf amount (partsOf cs a ms still rest) ≡ rest
 unfolding partsOf coveredPart remainder sumOf

@@ -3,3 +3,4 @@ pub mod Drawing
 pub mod Tables
 pub mod Cents
 pub mod OneTreaty
+pub mod Together

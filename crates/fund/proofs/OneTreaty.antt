@@ -75,7 +75,7 @@ module _ (cs : ℕ → Counterparty) where
   abbrev halved : Holding → Bool
   halved h = halfCovered (h .asset) (cs (h .asset .counterparty))
 
-  halved-treaty : (h : Holding) → halved h ≡ true → (reinsurance (h .asset) ≡ true) × (hasHalf (cs (h .asset .counterparty)) ≡ true)
+  pub halved-treaty : (h : Holding) → halved h ≡ true → (reinsurance (h .asset) ≡ true) × (hasHalf (cs (h .asset .counterparty)) ≡ true)
   unfolding halfCovered
   halved-treaty h e =
       let who = cs (h .asset .counterparty) in
