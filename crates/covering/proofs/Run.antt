@@ -1,6 +1,6 @@
 -- The loop as a function of its tables, and that it leaves what the definitions say.
 --   Tables step run      the tables, one mitigant, `more` mitigants from a place on
---   still-le still-half  no more may still be covered than is left of the asset, and of the half
+--   still-le             no more may still be covered than is left of the asset
 --   run-one              the mitigants of one asset
 --   run-all              those of all assets
 use mathlib.Core.Bool.{Bool, true, false, _&&_}
@@ -59,10 +59,6 @@ run b owner on place (suc more) t =
 pub still-le : (q rest half : ℕ) → stillOf q rest half ≤ rest
 unfolding stillOf
 still-le q rest half = if-le (q =? 0) (omega arith) (omega arith)
-
-pub still-half : (q rest half : ℕ) → 0 < q → stillOf q rest half ≤ half
-unfolding stillOf
-still-half q rest half l = rw (ne-eqb q 0 (λ e. omega arith)) (omega arith)
 
 -- ---- tables whose entries are lessened
 

@@ -66,14 +66,13 @@ fn still_of(on: usize, rest: u64, half: u64) -> u64
     choice::amount(on == 0, rest, choice::lesser(rest, half))
 }
 
-// A part that is covered, off the half that it is drawn on. A branch: where nobody's half is drawn on, no entry waits for the one before.
+// A part that is covered, off the half that it is drawn on.
 fn draw(on: usize, part: u64, halves: &mut [u64])
-    requires { ⌜ (on < length (now halves)) × (0 < on → part ≤ getD (now halves) on 0) ⌝ }
+    requires { ⌜ on < length (now halves) ⌝ }
     ensures { λ _. ⌜ now (halves .exit) ≡ drawnOff on part (now (halves .entry)) ⌝ }
 {
-    if on != 0 {
-        halves[on] -= part;
-    }
+    let half = halves[on];
+    halves[on] = choice::amount(on == 0, half, choice::less(half, part));
 }
 
 // Every mitigant in book order: what it covers, taken off what is left of its asset and off the half that its asset draws on.

@@ -5,7 +5,7 @@ use lib.ListN.{length, getD}
 use native.Mathlib.Omega.{arith}
 use Rattle.wire.specs.Bytes.{M}
 use Rattle.book.specs.Records.{K, assetAt}
-use Rattle.covering.proofs.Run.{still-le, still-half}
+use Rattle.covering.proofs.Run.{still-le}
 use Rattle.covering.proofs.Running.{Running, running-start, running-step, running-end, own-inside, own-odd, draws-inside, on-inside, halves-inside, rests-inside, rest-fits}
 use borrow.Author.Needs.{needs}
 use Rattle.covering.proofs.cover.Statement.{statement}
@@ -50,11 +50,6 @@ at c =
 still-fits : (c : tie.After-still-of Inv-loop μ-loop) → c .still-of .result ≤ getD (c .before .before .before .before .before .before .loop .rests) (c .before .before .before .before .owner-at .result / 2) 0
 still-fits c = rw (c .still-of .ensures) (still-le _ _ _)
 
--- and of a half no more than is left of it
-still-drawn : (c : tie.After-still-of Inv-loop μ-loop) → 0 < getD (now (c .before .before .before .before .before .before .before .before .before .before .before .before .before .before .args .draws)) (c .before .before .before .before .owner-at .result / 2) 0
-    → c .still-of .result ≤ getD (c .before .before .before .before .before .before .loop .halves) (getD (now (c .before .before .before .before .before .before .before .before .before .before .before .before .before .before .args .draws)) (c .before .before .before .before .owner-at .result / 2) 0) 0
-still-drawn c l = rw (c .still-of .ensures) (still-half _ _ _ l)
-
 mul-on : tie.Need-mul-on Inv-loop μ-loop
 mul-on c = omega (arith, at c .own)
 
@@ -84,8 +79,7 @@ part-at-requires c κs =
     (s .pre .0, s .pre .1, k .started, a .place, omega arith, s .pre .3, omega (arith, still-fits c, a .fits))
 
 draw-requires : tie.Need-draw-requires Inv-loop μ-loop
-draw-requires c κs =
-    (at (c .before .before .before .before .before .before) .halves, λ l. omega (arith, c .before .part-at .ensures .1, still-drawn (c .before .before) l))
+draw-requires c κs = at (c .before .before .before .before .before .before) .halves
 
 sub-rests : tie.Need-sub-rests Inv-loop μ-loop
 sub-rests c = omega (arith, c .before .before .before .before .part-at .ensures .1, still-fits (c .before .before .before .before .before))

@@ -1,24 +1,37 @@
--- `draw`: by whether there is a half to draw on.
-use mathlib.Core.Path.{_≡_}
-use mathlib.Core.Bool.{true, false}
-use native.Mathlib.Omega.{arith}
+-- `draw`: where there is no half to draw on, its entry is put back.
+use denote.Ref.{now}
+use mathlib.Core.Bool.{Bool, true, false}
+use mathlib.Core.List.{List}
+use mathlib.Core.Path.{_≡_, refl}
+use Prim.Native.Nat.{ℕ, _-_}
 use lib.Dec.{eqb}
+use lib.ListN.{getD, set}
+use lib.Seq.{set-getD}
+use Rattle.words.specs.Words.{if_then_else_}
 use Rattle.covering.specs.Covered.{drawnOff}
 use borrow.Author.Needs.{needs}
-use borrow.Author.Tests.{ne-eqb, eq-eqb}
 use Rattle.covering.proofs.draw.Statement.{statement}
 use Rattle.covering.proofs.draw.Tie as tie
 
-sub-halves : tie.Need-sub-halves
-sub-halves c = omega (arith, c .before .before .pre .1 (omega arith))
+put-back : (t : List ℕ) (on part : ℕ) (s : Bool) → set t on (if s then getD t on 0 else getD t on 0 - part) ≡ (if s then t else set t on (getD t on 0 - part))
+put-back t on part true = rw set-getD
+put-back t on part false = refl
 
 returns : tie.Need-returns
 unfolding drawnOff
-returns c = let s = c .before .before in let e : eqb (s .args .on) 0 ≡ false = ne-eqb (s .args .on) 0 (λ z. omega arith) in rw e
-
-returns-2 : tie.Need-returns-2
-unfolding drawnOff
-returns-2 c = let s = c .before in let e : eqb (s .args .on) 0 ≡ true = eq-eqb (s .args .on) 0 (omega arith) in rw e
+returns c =
+    let s = c .before .before .before .before in
+    rw (c .amount .ensures, c .before .less .ensures) (put-back (now (s .args .halves)) (s .args .on) (s .args .part) (eqb (s .args .on) 0))
 
 pub draw-spec : {M : Type 1} → statement M
-draw-spec = tie.close (tie.spec (λ c. search needs) (λ c. search needs) sub-halves (λ c. search needs) (λ c. search needs) returns returns-2)
+draw-spec =
+    tie.close
+    (tie.spec
+    (λ c. search needs)
+    (λ c. search needs)
+    (λ c κs. search needs)
+    (λ c κs. search needs)
+    (λ c. search needs)
+    (λ c. search needs)
+    (λ c. search needs)
+    returns)
