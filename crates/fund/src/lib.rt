@@ -64,7 +64,7 @@ fn draw(
     let n = h.assets as usize;
     let k = h.mitigants as usize;
     let first = book::assets_of(book);
-    let behind = book::mitigants_start(h);
+    let start = book::mitigants_start(h);
     let values = assets::fill(
         book,
         first,
@@ -79,20 +79,10 @@ fn draw(
         places,
     );
     assets::halve(halves);
-    covering::cover(
-        book,
-        behind,
-        k,
-        terms,
-        starts,
-        draws,
-        halves,
-        rests,
-        covered,
-    );
+    covering::cover(book, start, k, terms, starts, draws, halves, rests, covered);
     let sums = cells::post(
         book,
-        behind,
+        start,
         n,
         k,
         groups,
