@@ -1,11 +1,14 @@
 # make demo            runs the desk on an example book under the published schedule
 # make test            proves everything and runs every check; its last line is 'N passed, 0 failed'
 # make library         target/staticlib/libweightrose.a
-# make install         library, header and pkg-config file below PREFIX
+# make shared          target/shared/libweightrose.so.0
+# make python          the shared library into the Python package, for 'pip install ./python'
+# make install         both libraries, header and pkg-config files below PREFIX
+# make test-page       the package's page in a real browser
 # make compare-long    a million inputs against the second implementation
 # make compare-before  the same inputs as the tests' against another build of the library, BEFORE_LIB=..
 # make bench           times of the library, of the second implementation and of a yardstick
-.PHONY: demo test library clean
+.PHONY: demo test library python clean
 
 demo: target/demo
 	@echo 'Published schedule; one ungraded name with two assets of 3,000,000.00, kinds 11 and 6.'
@@ -30,5 +33,10 @@ library: target/staticlib/libweightrose.a
 target/staticlib/libweightrose.a: crates.txt $(wildcard crates/*/src/*.rt)
 	rt staticlib weightrose
 
+python: python/weightrose/libweightrose.so
+
+python/weightrose/libweightrose.so: $(SHARED_LIB)
+	cp $< $@
+
 clean:
-	rm -rf target
+	rm -rf target python/weightrose/libweightrose.so

@@ -25,6 +25,24 @@ extern "C" {
 #endif
 
 /* ========================================================================== */
+/*                                  Version                                   */
+/* ========================================================================== */
+
+/* The version that this header is of: as three numbers, as one that rises with each release, and in
+ * words. The second number rises with each landing; entries have been added and none changed. */
+#define WEIGHTROSE_VERSION_MAJOR 0
+#define WEIGHTROSE_VERSION_MINOR 10
+#define WEIGHTROSE_VERSION_PATCH 0
+#define WEIGHTROSE_VERSION_NUMBER \
+	(WEIGHTROSE_VERSION_MAJOR * 65536 + WEIGHTROSE_VERSION_MINOR * 256 + WEIGHTROSE_VERSION_PATCH)
+#define WEIGHTROSE_VERSION "0.10.0"
+
+/* The versions of schedules and of books that the library of this header takes: bit n is set for
+ * version n. */
+#define WEIGHTROSE_SCHEDULES_TAKEN (1 << 1 | 1 << 2)
+#define WEIGHTROSE_BOOKS_TAKEN (1 << 1 | 1 << 2)
+
+/* ========================================================================== */
 /*                                   Sizes                                    */
 /* ========================================================================== */
 
@@ -311,6 +329,49 @@ weightrose_length_of(uint64_t answer)
 /* ========================================================================== */
 /*                                 Functions                                  */
 /* ========================================================================== */
+
+/*
+ * weightrose_version() returns the version of the library, and which versions of schedules and of
+ * books it takes, as one number that is always the same: the low 32 bits are the library's
+ * WEIGHTROSE_VERSION_NUMBER; bit 32 + n is set where weightrose_report() takes schedules of version
+ * n, and bit 48 + n where it takes books of version n, for n from 0 to 15; none of a version above
+ * is taken. A host asks once, at its start: weightrose_belongs() tells whether the library is the
+ * one of the header that the host was compiled with, weightrose_takes_schedule() and
+ * weightrose_takes_book() whether it takes what the host has in its files. Libraries up to 0.9.0 do
+ * not have this function.
+ */
+uint64_t
+weightrose_version(void);
+
+/* The version of the library as a number, to be compared with WEIGHTROSE_VERSION_NUMBER. */
+static inline uint32_t
+weightrose_version_number(void)
+{
+	return (uint32_t)weightrose_version();
+}
+
+/* Whether the library takes schedules of that version. */
+static inline int
+weightrose_takes_schedule(unsigned version)
+{
+	return version < 16 && (weightrose_version() >> 32 >> version & 1) != 0;
+}
+
+/* Whether the library takes books of that version. */
+static inline int
+weightrose_takes_book(unsigned version)
+{
+	return version < 16 && (weightrose_version() >> 48 >> version & 1) != 0;
+}
+
+/* Whether header and library belong together. */
+static inline int
+weightrose_belongs(void)
+{
+	return weightrose_version() == ((uint64_t)WEIGHTROSE_BOOKS_TAKEN << 48 |
+					(uint64_t)WEIGHTROSE_SCHEDULES_TAKEN << 32 |
+					WEIGHTROSE_VERSION_NUMBER);
+}
 
 /*
  * weightrose_report() makes the report of a book under a schedule. It reads 'schedule_len' bytes

@@ -1,6 +1,7 @@
 #!/bin/sh
 # Installs into a temporary prefix, builds the C ledger against what was installed and nothing
-# else, runs it, and sees that uninstalling leaves no file.
+# else, once with the archive and once with the shared library, runs both, and sees that
+# uninstalling leaves no file.
 #
 #     tests/install.sh MAKEFILE LIBRARY      from the repository's root
 set -eu
@@ -14,27 +15,42 @@ run_make() {
     "$make" --no-print-directory -f "$makefile" "$1" PREFIX="$prefix" WEIGHTROSE_LIB="$library"
 }
 
+fail() {
+    echo "install: $1" >&2
+    exit 1
+}
+
+# A release that was there before, which ldconfig would take for the latest.
+mkdir "$prefix/lib"
+touch "$prefix/lib/libweightrose.so.0.99.0"
 run_make install
+test ! -e "$prefix/lib/libweightrose.so.0.99.0" || fail "another release's shared library is left"
 cp tests/c/ledger.c "$prefix/ledger.c"
 
 if command -v pkg-config >/dev/null; then
     export PKG_CONFIG_PATH="$prefix/lib/pkgconfig"
     cflags=$(pkg-config --cflags weightrose)
-    libs=$(pkg-config --libs weightrose)
+    archive=$(pkg-config --libs weightrose)
+    shared=$(pkg-config --libs weightrose-shared)
+    version=$(pkg-config --modversion weightrose)
+    test -f "$prefix/lib/libweightrose.so.$version" || fail "pkg-config says $version, the library's name another version"
 else
     cflags="-I$prefix/include"
-    libs="-L$prefix/lib -lweightrose"
+    archive="$prefix/lib/libweightrose.a"
+    shared="-L$prefix/lib -lweightrose"
 fi
 # The flags are lists of words.
 # shellcheck disable=SC2086
-(cd "$prefix" && ${CC:-cc} -std=c99 $cflags ledger.c $libs -o ledger)
+(cd "$prefix" && ${CC:-cc} -std=c99 $cflags ledger.c $archive -o ledger \
+    && ${CC:-cc} -std=c99 $cflags ledger.c $shared -o ledger-shared)
 "$prefix/ledger" >"$prefix/ledger.out"
-rm "$prefix/ledger" "$prefix/ledger.out" "$prefix/ledger.c"
+LD_LIBRARY_PATH="$prefix/lib" "$prefix/ledger-shared" >"$prefix/ledger-shared.out"
+cmp "$prefix/ledger.out" "$prefix/ledger-shared.out"
+readelf -d "$prefix/ledger" | grep -q weightrose && fail "the ledger of the archive needs the shared library"
+readelf -d "$prefix/ledger-shared" | grep -q 'libweightrose\.so\.0' || fail "the shared library is not needed by its soname"
+rm "$prefix/ledger" "$prefix/ledger-shared" "$prefix/ledger.out" "$prefix/ledger-shared.out" "$prefix/ledger.c"
 
 run_make uninstall
-left=$(find "$prefix" -type f)
-if [ -n "$left" ]; then
-    echo "install: left behind: $left" >&2
-    exit 1
-fi
-echo "install: the C ledger ran against the installed library"
+left=$(find "$prefix" ! -type d)
+test -z "$left" || fail "left behind: $left"
+echo "install: the C ledger ran against the installed archive and against the shared library"

@@ -1,11 +1,16 @@
 # The library from the outside. Included from the repository's root, or used by
 # make -f tests/tests.mk TARGET there.
 #
-#     tests           all of the below but compare-long, compare-before and bench
+#     tests           all of the below but test-page, compare-long, compare-before and bench
 #     tests-rust      the documents' cases and the slips, then the comparison with the second
 #                     implementation
-#     tests-c         the C ledger: as C99, as C++, under valgrind and the sanitizers
-#     tests-install   the C ledger against an installed library
+#     tests-c         the C ledger: as C99, as C++, under valgrind and the sanitizers, and against
+#                     the shared library
+#     tests-shared    that the shared library has the archive's functions, exports the header's and
+#                     nothing else
+#     tests-install   the C ledger against an installed library, archive and shared
+#     tests-python    the Python package: books as CSV, refusals, the command, the page
+#     test-page       the page in a real browser (needs chromium and poppler-utils)
 #     compare-long    the comparison on a million inputs (LONG_INPUTS, SEED)
 #     compare-before  the library against another build of it that has C-17, BEFORE_LIB=.., in place
 #                     of the second implementation: every answer and every byte lent of the reports,
@@ -35,9 +40,14 @@ SANITIZE := -fsanitize=address,undefined -fno-sanitize-recover=all
 LEDGER := tests/c/ledger.c
 LEDGER_NEEDS := $(LEDGER) include/weightrose.h $(WEIGHTROSE_LIB)
 
-.PHONY: tests tests-rust tests-c tests-install compare-long compare-before bench
+PYTHON ?= python3
 
-tests: tests-rust tests-c tests-install
+include tests/install.mk
+
+.PHONY: tests tests-rust tests-c tests-shared tests-install tests-python test-page compare-long \
+    compare-before bench
+
+tests: tests-rust tests-c tests-shared tests-install tests-python
 
 tests-rust: $(WEIGHTROSE_LIB)
 	$(CARGO_ENV) $(CARGO) test $(CARGO_FLAGS) --profile checked
@@ -55,6 +65,7 @@ compare-before: $(WEIGHTROSE_LIB)
 	    --redefine-sym weightrose_convert=peer_convert \
 	    --redefine-sym weightrose_bills=peer_bills \
 	    --redefine-sym weightrose_headroom=peer_headroom \
+	    --redefine-sym weightrose_version=peer_version \
 	    --redefine-sym weightrose_published=peer_published $(BEFORE_LIB) $(TESTS_OUT)/libbefore.a
 	$(CARGO_ENV) YARDSTICK_LIB=$(abspath $(TESTS_OUT)/libbefore.a) \
 	    $(CARGO) run $(CARGO_FLAGS) --profile checked --bin compare -- \
@@ -64,10 +75,12 @@ bench: $(WEIGHTROSE_LIB)
 	$(CARGO_ENV) YARDSTICK_LIB=$(abspath $(YARDSTICK_LIB)) \
 	    $(CARGO) run $(CARGO_FLAGS) --release --bin bench
 
-tests-c: $(TESTS_OUT)/ledger $(TESTS_OUT)/ledger-cxx $(TESTS_OUT)/ledger-sanitized
+tests-c: $(TESTS_OUT)/ledger $(TESTS_OUT)/ledger-cxx $(TESTS_OUT)/ledger-sanitized \
+    $(TESTS_OUT)/ledger-shared
 	$(TESTS_OUT)/ledger
 	$(TESTS_OUT)/ledger-cxx >/dev/null
 	$(TESTS_OUT)/ledger-sanitized >/dev/null
+	$(TESTS_OUT)/ledger-shared >/dev/null
 	valgrind --quiet --error-exitcode=1 --leak-check=full $(TESTS_OUT)/ledger >/dev/null
 
 $(TESTS_OUT)/ledger: $(LEDGER_NEEDS)
@@ -82,7 +95,20 @@ $(TESTS_OUT)/ledger-sanitized: $(LEDGER_NEEDS)
 	mkdir -p $(TESTS_OUT)
 	$(CC) -std=c99 $(C_FLAGS) $(SANITIZE) $(LEDGER) $(WEIGHTROSE_LIB) -o $@
 
-tests-install: $(WEIGHTROSE_LIB)
-	MAKE='$(MAKE)' tests/install.sh $(TESTS_MAKEFILE) $(abspath $(WEIGHTROSE_LIB))
+$(TESTS_OUT)/ledger-shared: $(LEDGER) include/weightrose.h $(SHARED_LIB)
+	mkdir -p $(TESTS_OUT)
+	$(CC) -std=c99 $(C_FLAGS) $(LEDGER) $(SHARED_LIB) -Wl,-rpath,$(abspath $(SHARED_OUT)) -o $@
 
-include tests/install.mk
+tests-shared: $(SHARED_LIB)
+	tests/shared.sh $(SHARED_LIB) $(WEIGHTROSE_LIB) include/weightrose.h
+
+PYTHON_ENV = PYTHONPATH=$(abspath python) WEIGHTROSE_LIBRARY=$(abspath $(SHARED_LIB))
+
+tests-python: $(SHARED_LIB)
+	$(PYTHON_ENV) $(PYTHON) -m unittest discover --start-directory tests/python --top-level-directory tests/python
+
+test-page: $(SHARED_LIB)
+	$(PYTHON_ENV) $(PYTHON) tests/page/browser.py
+
+tests-install: $(WEIGHTROSE_LIB) $(SHARED_LIB)
+	MAKE='$(MAKE)' tests/install.sh $(TESTS_MAKEFILE) $(abspath $(WEIGHTROSE_LIB))

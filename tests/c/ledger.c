@@ -8,8 +8,9 @@
  * desk (C-13), bills the desks for the capital that their excesses tie up (C-14), moves its
  * schedule to rates in ten-thousandths (C-15), asks how much more its dealers may buy (C-16), looks
  * at lines whose limits are equal in cents alone (C-17), covers treaties with one reinsurer (C-18),
- * and ends with status 1 where anything differs. Each block is as long as its bytes, so that a
- * memory checker sees any byte read or written past its end.
+ * asks at its start whether the library is the one that it was compiled for, and ends with status 1
+ * where anything differs. Each block is as long as its bytes, so that a memory checker sees any byte
+ * read or written past its end.
  */
 #include "weightrose.h"
 
@@ -1408,9 +1409,49 @@ published_into_too_little(void)
 	free(block.bytes);
 }
 
+/* Whether a schedule or a book of that version is refused for its version, as the library answers
+ * to an empty ledger's. */
+static int
+refused_for_version(unsigned schedule_version, unsigned book_version)
+{
+	struct block schedule = new_schedule();
+	struct block book = new_book(&empty_ledger);
+	struct block room = new_block(WEIGHTROSE_MOST_REPORT_SIZE);
+	enum weightrose_refusal refusal;
+
+	put_u16(schedule.bytes + 4, (uint16_t)schedule_version);
+	put_u16(book.bytes + 4, (uint16_t)book_version);
+	refusal = weightrose_refusal_of(
+		weightrose_report(schedule.bytes, schedule.length, book.bytes, book.length,
+				  room.bytes, room.length));
+	free(schedule.bytes);
+	free(book.bytes);
+	free(room.bytes);
+	return refusal == WEIGHTROSE_SCHEDULE_VERSION || refusal == WEIGHTROSE_BOOK_VERSION;
+}
+
+/* What a host asks at its start: a library that is another one than its header's, or that does not
+ * take the versions in the host's files, is told before any book is read. */
+static void
+start(void)
+{
+	unsigned version;
+
+	expect(weightrose_belongs(), "header and library do not belong together");
+	expect(weightrose_version_number() == WEIGHTROSE_VERSION_NUMBER, "another library");
+	for (version = 0; version < 20; version++) {
+		expect(weightrose_takes_schedule(version) == !refused_for_version(version, 1),
+		       "a version of schedules is taken and told otherwise");
+		expect(weightrose_takes_book(version) == !refused_for_version(1, version),
+		       "a version of books is taken and told otherwise");
+	}
+	printf("library %s\n", WEIGHTROSE_VERSION);
+}
+
 int
 main(void)
 {
+	start();
 	t2();
 	t4_and_t5();
 	length_refusals();

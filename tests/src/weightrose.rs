@@ -1,4 +1,4 @@
-//! The library's five exported functions behind safe ones.
+//! The library's six exported functions behind safe ones.
 
 /// Bytes of a schedule.
 pub const SCHEDULE: usize = 122;
@@ -60,6 +60,7 @@ mod exported {
             answers_len: usize,
         ) -> u64;
         pub fn weightrose_published(schedule: *mut u8, schedule_len: usize) -> u64;
+        pub fn weightrose_version() -> u64;
     }
 }
 
@@ -301,4 +302,24 @@ pub fn published() -> [u8; SCHEDULE] {
     let written = published_into(&mut schedule);
     assert_eq!(written, SCHEDULE as u64);
     schedule
+}
+
+/// The library's version as one number, 65,536 times its first, 256 times its second and its third.
+pub fn version_number() -> u32 {
+    version() as u32
+}
+
+/// Whether the library takes schedules of that version.
+pub fn takes_schedule(version_of: u16) -> bool {
+    version_of < 16 && version() >> 32 >> version_of & 1 == 1
+}
+
+/// Whether the library takes books of that version.
+pub fn takes_book(version_of: u16) -> bool {
+    version_of < 16 && version() >> 48 >> version_of & 1 == 1
+}
+
+fn version() -> u64 {
+    // SAFETY: the function takes nothing.
+    unsafe { exported::weightrose_version() }
 }

@@ -13,8 +13,8 @@ use weightrose_tests::inputs::{
 use weightrose_tests::random::Random;
 use weightrose_tests::raw::RawQuestion;
 use weightrose_tests::weightrose::{
-    packed_bills, packed_convert, packed_headroom, packed_report, published, ANSWER, BILLS,
-    LARGEST_REPORT, MOST_QUESTIONS,
+    packed_bills, packed_convert, packed_headroom, packed_report, published, takes_book,
+    takes_schedule, version_number, ANSWER, BILLS, LARGEST_REPORT, MOST_QUESTIONS,
 };
 
 /// The stack that `weightrose.h` names, and some for the thread's own frames.
@@ -73,4 +73,36 @@ fn a_small_stack() {
         let thread = thread::Builder::new().stack_size(STACK + OWN_STACK).spawn(call).unwrap();
         assert_eq!(thread.join().unwrap() >> 32, 0);
     }
+}
+
+/// Of every version that a schedule or a book may say, the library tells by its own version whether
+/// it takes it, and takes it just then.
+#[test]
+fn versions_taken() {
+    let book = sixteen_tiers(1, 1, 1_000).bytes();
+    let mut buffer = vec![0; LARGEST_REPORT];
+    for version in 0..=u16::MAX {
+        let of_version = |bytes: &[u8]| {
+            let mut other = bytes.to_vec();
+            other[4..6].copy_from_slice(&version.to_le_bytes());
+            other
+        };
+        let answer = packed_report(&of_version(&published()), &book, &mut buffer);
+        assert_eq!(takes_schedule(version), answer >> 32 != 3, "schedules of version {version}");
+        let answer = packed_report(&published(), &of_version(&book), &mut buffer);
+        assert_eq!(takes_book(version), answer >> 32 != 7, "books of version {version}");
+    }
+    assert!(takes_schedule(1) && takes_schedule(2) && takes_book(1) && takes_book(2));
+}
+
+/// The version is the one that the C header has.
+#[test]
+fn version_of_the_header() {
+    let header = include_str!("../../include/weightrose.h");
+    let part = |name: &str| -> u32 {
+        let defined = format!("#define WEIGHTROSE_VERSION_{name} ");
+        let line = header.lines().find_map(|line| line.strip_prefix(&defined)).unwrap();
+        line.parse().unwrap()
+    };
+    assert_eq!(version_number(), part("MAJOR") * 65_536 + part("MINOR") * 256 + part("PATCH"));
 }

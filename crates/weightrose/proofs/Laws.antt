@@ -15,14 +15,14 @@ use Rattle.refusal.specs.declared.Refusal.the-variants.{ScheduleLength, Schedul
 use Rattle.refusal.specs.Refusals.{numberOf}
 use Rattle.refusal.specs.Chain.{refuse_unless_, _andThen_, answerBy}
 use Rattle.refusal.specs.Laws.{then-first, then-rest, unless-fine}
-use Rattle.book.specs.Records.{C}
+use Rattle.book.specs.Records.{version as bookVersion, C}
 use Rattle.book.specs.Book.{bookOf}
 use Rattle.book.specs.Check.{bookCheck}
 use Rattle.book.specs.AcceptedLaws.{accepted}
 use Rattle.conversion.specs.Conversion.{converted, firstCheck, narrowCheck}
 use Rattle.exposure.specs.Values.{fundCheck}
 use Rattle.schedule.specs.Check.{scheduleCheck}
-use Rattle.schedule.specs.Schedule.{scheduleSize, published, scheduleBytes}
+use Rattle.schedule.specs.Schedule.{scheduleSize, version as scheduleVersion, published, scheduleBytes}
 use Rattle.schedule.specs.PublishedLaws.{published-length}
 use Rattle.report.specs.Answer.{reportOf, checkOf, answerOf, writtenBy, Answered}
 use Rattle.convert.specs.Convert.{bookConverts, convertAnswer, Converts}
@@ -32,7 +32,8 @@ use Rattle.questions.specs.Questions.{answerSize, countOf, goodList}
 use Rattle.questions.specs.Headroom.{answersOf, headroomCheck, headroomAnswer, Asked}
 use Rattle.questions.proofs.Listed.{listed}
 use Rattle.weightrose.specs.Most.{report-most}
-use Rattle.weightrose.specs.Exported.{packed, Apart, Reported, Converted, BillsWritten, Answers, Published}
+use Rattle.weightrose.specs.Version.{libraryVersion, number-read, schedule-read, book-read}
+use Rattle.weightrose.specs.Exported.{packed, Apart, Reported, Converted, BillsWritten, Answers, Published, Versioned}
 
 -- no refusal has the number 0
 numbered : (why : Refusal) → 1 ≤ numberOf why
@@ -164,4 +165,13 @@ put before after h e =
     record {
       answer = rw (le-leb scheduleSize (length before) h) refl;
       bytes = rw (le-leb scheduleSize (length before) h) (e ∙ ap (λ (k : ℕ). scheduleBytes published ++ drop k before) n);
+    }
+
+pub versioned : (r : ℕ) → r ≡ libraryVersion → Versioned r
+versioned r e =
+    record {
+      answer = e;
+      number = rw e number-read;
+      schedules = λ s. rw e (schedule-read (scheduleVersion s));
+      books = λ b. rw e (book-read (bookVersion b));
     }

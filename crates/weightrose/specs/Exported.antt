@@ -6,20 +6,26 @@
 --   BillsWritten   of weightrose_bills
 --   Answers        of weightrose_headroom
 --   Published      of weightrose_published
+--   Versioned      of weightrose_version
 use mathlib.Core.List.{List, _++_}
 use mathlib.Core.Path.{_≡_}
 use Prim.Native.Nat.{ℕ, _+_, _*_, _≤_, _<_}
 use lib.ListN.{length, drop}
 use Rattle.words.specs.Words.{_≤?_, if_then_else_}
+use Rattle.wire.specs.Bytes.{bit}
 use Rattle.refusal.specs.declared.Answer.{Answer}
 use Rattle.refusal.specs.declared.Answer.the-variants.{Written, Refused}
 use Rattle.refusal.specs.Refusals.{numberOf, placeOf}
-use Rattle.schedule.specs.Schedule.{scheduleSize, published, scheduleBytes}
+use Rattle.schedule.specs.Schedule.{scheduleSize, version as scheduleVersion, published, scheduleBytes}
+use Rattle.schedule.specs.Check.{known}
+use Rattle.book.specs.Records.{version as bookVersion}
+use Rattle.book.specs.Check.{versionKnown}
 use Rattle.conversion.specs.Conversion.{converted}
 use Rattle.convert.specs.Convert.{convertAnswer, KeptBy}
 use Rattle.report.specs.Answer.{fundIn, reportOf, answerOf, writtenBy, CutsOf}
 use Rattle.billing.specs.Billed.{billsOf, billAnswer, AddUpBy}
 use Rattle.questions.specs.Headroom.{answersOf, headroomAnswer, RightBy}
+use Rattle.weightrose.specs.Version.{versionNumber, libraryVersion, numberIn, schedulesIn, booksIn}
 
 -- "A refusal is a number and a place": the number in the high 32 bits, the place in the low ones; else the length written
 abbrev pub packed : Answer → ℕ
@@ -63,3 +69,10 @@ pub record Answers (schedule book questions before after : List ℕ) (r : ℕ) :
 pub record Published (before after : List ℕ) (r : ℕ) : Type 0 where
   pub answer : r ≡ (if scheduleSize ≤? length before then scheduleSize else 0)
   pub bytes : after ≡ (if scheduleSize ≤? length before then scheduleBytes published ++ drop scheduleSize before else before)
+
+-- the number r, and what a host reads in it: the version, and by a bit whether refusal 3 or 7 lets a schedule's or a book's version pass
+pub record Versioned (r : ℕ) : Type 0 where
+  pub answer : r ≡ libraryVersion
+  pub number : numberIn r ≡ versionNumber
+  pub schedules : (s : List ℕ) → known (scheduleVersion s) ≡ bit (scheduleVersion s) (schedulesIn r)
+  pub books : (b : List ℕ) → versionKnown b ≡ bit (bookVersion b) (booksIn r)

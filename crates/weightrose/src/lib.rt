@@ -3,7 +3,23 @@ use refusal::Answer;
 ghost use mathlib.Core.Path.{_≡_};
 ghost use Prim.Native.Nat.{_+_, _*_, _<_};
 ghost use lib.ListN.{length};
-ghost use Rattle.weightrose.specs.Exported.{packed, Reported, Converted, BillsWritten, Answers, Published};
+ghost use Rattle.weightrose.specs.Exported.{packed, Reported, Converted, BillsWritten, Answers, Published, Versioned};
+
+// The library's version, MAJOR.MINOR.PATCH.
+const MAJOR: u64 = 0;
+
+const MINOR: u64 = 10;
+
+const PATCH: u64 = 0;
+
+// It as one number.
+const NUMBER: u64 = MAJOR * 65536 + MINOR * 256 + PATCH;
+
+// The versions of schedules that are taken, 1 and 2: bit v for version v.
+const SCHEDULES: u64 = 2 + 4;
+
+// Those of books.
+const BOOKS: u64 = 2 + 4;
 
 // An answer as one number: a refusal's number above its place, or the length written.
 fn pack(answer: Answer) -> u64
@@ -62,4 +78,12 @@ pub extern "C" fn weightrose_published(schedule: &mut [u8]) -> u64
     }
     schedule::put_published(schedule);
     schedule::SIZE as u64
+}
+
+// The library's version, and the versions of schedules and books that it takes, as one number.
+#[no_mangle]
+pub extern "C" fn weightrose_version() -> u64
+    ensures { λ r. ⌜ Versioned r ⌝ }
+{
+    NUMBER + SCHEDULES * 4294967296 + BOOKS * 281474976710656
 }

@@ -1,0 +1,3 @@
+from weightrose.command import main
+
+raise SystemExit(main())
