@@ -10,7 +10,16 @@ from weightrose.library import VERSION, LibraryError, Version, version
 from weightrose.rates import read_schedule, schedule_text
 from weightrose.records import Asset, Book, Counterparty, Fund, Line, Malformed, Mitigant, Report, Schedule, ScheduleRow
 from weightrose.refusals import Number, Refusal
-from weightrose.words import AssetFlag, AssetKind, CounterpartyFlag, CounterpartyKind, EntryClass, Form, MitigantFlag, Tier
+from weightrose.words import (
+    AssetFlag,
+    AssetKind,
+    CounterpartyFlag,
+    CounterpartyKind,
+    EntryClass,
+    Form,
+    MitigantFlag,
+    Tier,
+)
 
 __version__ = ".".join(map(str, VERSION))
 

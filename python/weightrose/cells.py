@@ -163,7 +163,9 @@ class Columns:
             if not name:
                 found.append(Problem(file, 1, None, f"column {place + 1} has no name"))
             elif name not in allowed:
-                found.append(Problem(file, 1, name, f"is none of the columns: {', '.join(self.needed + self.possible)}"))
+                found.append(
+                    Problem(file, 1, name, f"is none of the columns: {', '.join(self.needed + self.possible)}")
+                )
             elif name in header[:place]:
                 found.append(Problem(file, 1, name, "stands twice"))
         for name in self.amounts:

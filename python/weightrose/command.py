@@ -12,6 +12,7 @@ from typing import Callable, List, Optional, Sequence, Tuple
 
 from weightrose import __version__, desk, folder, inquiry, library, page, rates, tables
 from weightrose.cells import Damaged
+
 from weightrose.inputs import (
     Asked, BookInput, ScheduleInput, TurnedBack, Usage, answered, places, read_book, read_data, read_questions,
     read_schedule, write_data, write_tables, write_text,
@@ -96,9 +97,9 @@ def asked_of(options: argparse.Namespace, book: Book) -> List[Asked]:
     for name, kind in options.ask or ():
         if name not in known:
             raise Usage(f"--ask: {name!r} is no counterparty of the book")
-        number = kinds.get(plain(kind), int(kind) if re.fullmatch("[0-9]{1,2}", kind) else None)
-        if number is None:
-            raise Usage(f"--ask: {kind!r} is none of: {', '.join(kinds)}; and no number")
+        number = kinds.get(plain(kind), int(kind) if re.fullmatch("[0-9]{1,3}", kind) else None)
+        if number is None or number > 255:
+            raise Usage(f"--ask: {kind!r} is none of: {', '.join(kinds)}; and no number of a byte")
         asked.append(Asked(known[name], number, f"--ask {name!r} {kind!r}"))
     if not asked and not options.questions:
         raise Usage("no question: --ask COUNTERPARTY KIND, or --questions FILE")
@@ -166,7 +167,9 @@ class _Version(argparse.Action):
 
 
 def _with_book(command: argparse.ArgumentParser, schedule: bool = True) -> None:
-    command.add_argument("book", nargs="?", default="-", help="a folder of CSV or a file of bytes; standard input without it")
+    command.add_argument(
+        "book", nargs="?", default="-", help="a folder of CSV or a file of bytes; standard input without it"
+    )
     if schedule:
         command.add_argument("--schedule", metavar="FILE", help="bytes or a table of CSV; the published one without it")
 
@@ -191,7 +194,9 @@ def parser() -> argparse.ArgumentParser:
         prog="weightrose", description="The asset concentration charge of a life company's fund (LPS 117).",
         epilog="Ends with status 0, with 1 for what is refused, and with 2 for bad usage.",
     )  # fmt: skip
-    top.add_argument("--version", nargs=0, action=_Version, help="say this version, and which schedules and books it takes")
+    top.add_argument(
+        "--version", nargs=0, action=_Version, help="say this version, and which schedules and books it takes"
+    )
     commands = top.add_subparsers(metavar="COMMAND", required=True)
 
     def command(name: str, run: Callable[[argparse.Namespace], int], text: str) -> argparse.ArgumentParser:
@@ -267,5 +272,5 @@ def main(arguments: Optional[Sequence[str]] = None) -> int:
         lines, status = list(turned.lines), REFUSED
     except (Usage, LibraryError) as error:
         lines, status = [f"weightrose: {error}"], USAGE
-    sys.stderr.write("".join(line + "\n" for line in lines))
+    sys.stderr.write("".join(tables.printable(line) + "\n" for line in lines))
     return status

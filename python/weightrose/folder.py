@@ -22,10 +22,14 @@ FUND_AMOUNTS = ("total_assets", "capital_base", "excluded_assets")
 ASSET_AMOUNTS = ("value", "offsets", "deductions", "insurance_stress", "combination_stress")
 
 COLUMNS = {
-    "fund.csv": Columns(("total_assets", "capital_base"), ("name", "version", "specialist", "excluded_assets"), FUND_AMOUNTS),
+    "fund.csv": Columns(
+        ("total_assets", "capital_base"), ("name", "version", "specialist", "excluded_assets"), FUND_AMOUNTS
+    ),
     "counterparties.csv": Columns(("name", "kind"), ("parent", "grade", "flags")),
     "assets.csv": Columns(
-        ("name", "counterparty", "kind", "value"), ("flags", "entry_class", "months", "desk") + ASSET_AMOUNTS[1:], ASSET_AMOUNTS
+        ("name", "counterparty", "kind", "value"),
+        ("flags", "entry_class", "months", "desk") + ASSET_AMOUNTS[1:],
+        ASSET_AMOUNTS,
     ),
     "mitigants.csv": Columns(("asset", "form", "counterparty", "value"), ("flags",), ("value",)),
 }
@@ -123,12 +127,13 @@ def _tables(folder: Path, problems: List[Problem]) -> Dict[str, List[Row]]:
     tables: Dict[str, List[Row]] = {}
     for file, columns in COLUMNS.items():
         try:
-            data = (folder / file).read_bytes()
+            tables[file] = table(file, (folder / file).read_bytes(), columns, problems)
         except FileNotFoundError:
-            problems.append(Problem(file, None, None, "is missing; a header without rows will do" if file != "fund.csv" else "is missing"))
+            problems.append(Problem(file, None, None, "is missing: every file has a row of columns, if nothing else"))
             tables[file] = []
-        else:
-            tables[file] = table(file, data, columns, problems)
+        except OSError as error:
+            problems.append(Problem(file, None, None, f"can't be read: {error.strerror}"))
+            tables[file] = []
     return tables
 
 

@@ -15,7 +15,12 @@ from weightrose.refusals import Number, Refusal
 from weightrose.words import AssetKind
 
 # What a file of CSV has rows of, to speak of the records of a book in bytes.
-_RECORDS = {"fund.csv": "header", "counterparties.csv": "counterparty", "assets.csv": "asset", "mitigants.csv": "mitigant"}
+_RECORDS = {
+    "fund.csv": "header",
+    "counterparties.csv": "counterparty",
+    "assets.csv": "asset",
+    "mitigants.csv": "mitigant",
+}
 
 
 class Usage(Exception):
@@ -172,8 +177,9 @@ def write_data(data: bytes, path: Optional[str]) -> None:
 
 
 def write_text(text: str, path: Optional[str]) -> None:
+    """UTF-8, whatever the terminal's settings."""
     if path is None:
-        sys.stdout.write(text)
+        sys.stdout.buffer.write(text.encode())
     else:
         write_data(text.encode(), path)
 

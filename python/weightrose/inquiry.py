@@ -12,6 +12,7 @@ from typing import Any, Callable, Dict, List, Optional, Sequence, Tuple, Union
 
 from weightrose import library
 from weightrose.desk import Question, located, question_bytes
+
 from weightrose.records import (
     ASSET_SIZE, COUNTERPARTY, FUND, MITIGANT, ROW_NAMES,
     Asset, Book, Counterparty, Fund, Mitigant, Schedule, ScheduleRow,

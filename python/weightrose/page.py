@@ -612,7 +612,7 @@ tbody th,tbody td{border-top:1px solid var(--rule)}
 .lines th,.lines td{vertical-align:middle}
 .lines tbody th,.lines tbody td{border:0;padding-top:0;padding-bottom:0}
 .lines{table-layout:fixed}
-.lines th:first-child{width:calc(var(--tier)*.9)}
+.lines th:first-child{width:min(var(--tier)*.9,10.5rem)}
 .lines .n{width:calc(var(--amount) + var(--gap) + .1rem)}
 .largest .pic{width:14%;min-width:5rem;padding-top:.35rem;padding-bottom:0}
 .largest thead .pic{padding-bottom:.3rem}
@@ -629,7 +629,7 @@ tbody th,tbody td{border-top:1px solid var(--rule)}
 .step{stroke:#97a1ac}
 rect.excess{stroke:#f3a544}
 }
-@media screen and (max-width:62rem){
+@media screen and (max-width:66rem){
 .lines,.largest,:is(.lines,.largest) :is(caption,thead,tbody,th,td){display:block}
 :is(.lines,.largest) tr{display:grid;column-gap:1rem}
 :is(.lines,.largest) :is(th,td){padding-left:0;border:0}
@@ -650,11 +650,12 @@ rect.excess{stroke:#f3a544}
 .largest .n:nth-child(7)::before{content:"Left"}
 .step{display:none}
 }
-@media screen and (max-width:48rem){
+@media screen and (max-width:49.9rem){
 :root{--gap:.6rem}
 .no{width:1.9rem}
 .tight{display:none}
 .sums small{display:block;margin:0}
+.sums small data{white-space:normal;overflow-wrap:anywhere}
 :is(.lines,.findings) thead{position:absolute;width:1px;height:1px;overflow:hidden;clip-path:inset(50%)}
 :is(.lines,.largest) tbody tr{grid-template-columns:repeat(auto-fit,minmax(8.75rem,1fr));row-gap:.3rem}
 :is(.lines,.largest) tbody :is(th,.pic,.tier){grid-row:auto;grid-column:1/-1}
@@ -683,7 +684,7 @@ a{color:inherit;text-decoration:none}
 tr,figure,.legend,.lines,.short{break-inside:avoid}
 tbody tr:first-child{break-before:avoid}
 .lines{margin-top:6mm}
-.lines th:first-child{width:calc(var(--tier)*.8)}
+.lines th:first-child{width:min(var(--tier)*.85,25mm)}
 .largest .pic{min-width:20mm}
 }
 """

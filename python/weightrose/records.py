@@ -112,7 +112,9 @@ class Asset:
             raise Malformed(f"asset {self.name!r}: a book of version 1 has no desks")
         if len(self.mitigants) > MOST_MITIGANTS_OF_AN_ASSET[version]:
             most = MOST_MITIGANTS_OF_AN_ASSET[version]
-            raise Malformed(f"asset {self.name!r}: {len(self.mitigants)} mitigants, and version {version} counts to {most}")
+            raise Malformed(
+                f"asset {self.name!r}: {len(self.mitigants)} mitigants, and version {version} counts to {most}"
+            )
         count = (len(self.mitigants),) if version == 1 else (len(self.mitigants), self.desk)
         return _packed(
             f"asset {self.name!r}", ASSET[version], self.kind, self.flags, self.entry_class, self.months,
@@ -218,9 +220,7 @@ class Schedule:
     percent_rows: Tuple[int, int] = field(default=(0, 0), compare=False)
 
     def to_bytes(self) -> bytes:
-        head = _packed(
-            "schedule", SCHEDULE_HEAD, SCHEDULE_MARK, self.version, self.percent_first, self.percent_second
-        )
+        head = _packed("schedule", SCHEDULE_HEAD, SCHEDULE_MARK, self.version, self.percent_first, self.percent_second)
         rows = (
             _packed(f"row {name}", SCHEDULE_ROW, r.vaf_rate, r.second_vaf_rate, r.base_rate, r.fixed_amount)
             for name, r in zip(ROW_NAMES, self.rows)

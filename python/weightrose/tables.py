@@ -5,6 +5,7 @@ from __future__ import annotations
 import csv
 import io
 import json
+import unicodedata
 from typing import Any, Dict, List, Sequence, Tuple
 
 from weightrose.cells import dollars
@@ -35,15 +36,25 @@ def tier_letters(number: int) -> str:
     return Tier(number).letters
 
 
+def printable(text: str) -> str:
+    """A user's text on one line, and without what a terminal would take for a command."""
+    return "".join(character if character.isprintable() else " " for character in text)
+
+
+def _width(text: str) -> int:
+    """The columns of a terminal that a text takes: two for a wide character, none for an accent by itself."""
+    wide = sum(unicodedata.east_asian_width(character) in "WF" for character in text)
+    return len(text) + wide - sum(unicodedata.combining(character) != 0 for character in text)
+
+
 def aligned(rows: Sequence[Sequence[str]], left: int) -> str:
     """Columns two spaces apart, the first ones aligned left and the others right."""
-    widths = [max(map(len, column)) for column in zip(*rows)]
+    shown = [[printable(cell) for cell in row] for row in rows]
+    widths = [max(map(_width, column)) for column in zip(*shown)]
     lines = []
-    for row in rows:
-        cells = [
-            cell.ljust(width) if place < left else cell.rjust(width)
-            for place, (cell, width) in enumerate(zip(row, widths))
-        ]
+    for row in shown:
+        gaps = [" " * (width - _width(cell)) for cell, width in zip(row, widths)]
+        cells = [cell + gap if place < left else gap + cell for place, (cell, gap) in enumerate(zip(row, gaps))]
         lines.append("  ".join(cells).rstrip() + "\n")
     return "".join(lines)
 

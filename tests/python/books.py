@@ -17,7 +17,9 @@ _ENDINGS = ("", ", Ltd", ' "plc"', " & Söhne", " 银行", ";x", "'s", "\nsecond
 
 def amount(choose: random.Random, most: int = M) -> int:
     """Small, ordinary and greatest amounts."""
-    return choose.choice((0, 1, 99, 100, choose.randrange(10**4), choose.randrange(10**9), choose.randrange(most + 1), most))
+    return choose.choice(
+        (0, 1, 99, 100, choose.randrange(10**4), choose.randrange(10**9), choose.randrange(most + 1), most)
+    )
 
 
 def accepted(seed: int, counterparties: int = 8, assets: int = 14, version: int = 0) -> Book:
@@ -27,14 +29,21 @@ def accepted(seed: int, counterparties: int = 8, assets: int = 14, version: int 
     specialist = choose.randrange(2)
     parties = tuple(
         Counterparty(
-            f"party {place}{choose.choice(_ENDINGS)}", choose.randrange(place), choose.randrange(5), choose.randrange(8),
+            f"party {place}{choose.choice(_ENDINGS)}",
+            choose.randrange(place),
+            choose.randrange(5),
+            choose.randrange(8),
             choose.randrange(8),
         )  # fmt: skip
         for place in range(1, counterparties + 1)
     )
     held = tuple(_asset(choose, place, counterparties, version, specialist) for place in range(1, assets + 1))
     total = min(M, sum(asset.value for asset in held) + choose.randrange(10**9))
-    return Book(Fund(total, choose.randrange(-M, M + 1), 0, specialist, version, choose.choice(("", "fund, one"))), parties, held)
+    return Book(
+        Fund(total, choose.randrange(-M, M + 1), 0, specialist, version, choose.choice(("", "fund, one"))),
+        parties,
+        held,
+    )
 
 
 def _asset(choose: random.Random, place: int, counterparties: int, version: int, specialist: int) -> Asset:
@@ -63,7 +72,13 @@ def any_bytes(seed: int) -> Book:
     choose = random.Random(seed)
     version = choose.choice((1, 2))
     parties = tuple(
-        Counterparty(f"p{place}", choose.choice((0, 1, place, 65535)), choose.randrange(16), choose.randrange(16), choose.randrange(256))
+        Counterparty(
+            f"p{place}",
+            choose.choice((0, 1, place, 65535)),
+            choose.randrange(16),
+            choose.randrange(16),
+            choose.randrange(256),
+        )
         for place in range(1, choose.randrange(1, 7))
     )
     most = (1 << 64) - 1
@@ -88,7 +103,12 @@ def maximal(seed: int = 1) -> Book:
     """As many records as a book may have, and many groups with an excess."""
     choose = random.Random(seed)
     parties = tuple(
-        Counterparty(f"Counterparty {place}", choose.randrange(place) if place % 3 == 0 else 0, choose.randrange(5), choose.randrange(8))
+        Counterparty(
+            f"Counterparty {place}",
+            choose.randrange(place) if place % 3 == 0 else 0,
+            choose.randrange(5),
+            choose.randrange(8),
+        )
         for place in range(1, 501)
     )
     held = []
@@ -98,7 +118,16 @@ def maximal(seed: int = 1) -> Book:
             for _ in range(1 + (place <= 600))
         )
         kind = choose.choice((3, 4, 5, 6, 7, 8, 10, 11))
-        held.append(Asset(kind, choose.randrange(1, 501), choose.randrange(10**9), f"Asset {place}", desk=place % 256, mitigants=own))
+        held.append(
+            Asset(
+                kind,
+                choose.randrange(1, 501),
+                choose.randrange(10**9),
+                f"Asset {place}",
+                desk=place % 256,
+                mitigants=own,
+            )
+        )
     return Book(Fund(2 * 10**10, 10**9, 0, 0, 2, "Maximal fund"), parties, tuple(held))
 
 

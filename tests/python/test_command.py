@@ -9,6 +9,7 @@ import subprocess
 import sys
 import tempfile
 import unittest
+from dataclasses import replace
 from pathlib import Path
 from typing import List, NamedTuple
 
@@ -35,7 +36,11 @@ class Commands(unittest.TestCase):
     def run_command(self, *arguments: str, stdin: bytes = b"", status: int = 0) -> Ended:
         """Runs it in a folder of its own. Without a refusal nothing is said on the side."""
         done = subprocess.run(
-            [sys.executable, "-m", "weightrose", *arguments], cwd=self.place, input=stdin, capture_output=True, check=False
+            [sys.executable, "-m", "weightrose", *arguments],
+            cwd=self.place,
+            input=stdin,
+            capture_output=True,
+            check=False,
         )
         ended = Ended(done.returncode, done.stdout, done.stderr.decode())
         self.assertEqual(ended.status, status, ended.err)
@@ -73,12 +78,16 @@ class WordForWord(Commands):
         self.check("bills.csv", "bills", "mybook", "--rate", "450", "--csv")
         found = json.loads(self.run_command("bills", "mybook", "--rate", "450", "--json").out)
         self.assertEqual(len(found["bills"]), 256)
-        self.assertEqual(sum(found["bills"]), json.loads((EXPECTED / "report.json").read_text())["charge"] * 450 // 10000)
+        self.assertEqual(
+            sum(found["bills"]), json.loads((EXPECTED / "report.json").read_text())["charge"] * 450 // 10000
+        )
 
     def test_headroom(self) -> None:
         asked = ("--ask", "Tower Trust", "other", "--ask", "Second Bank", "deposit", "--ask", "Commonwealth", "1")
         self.check("headroom.txt", "headroom", "mybook", *asked)
-        (self.place / "asked.csv").write_text("counterparty,kind\nTower Trust,other\nSecond Bank,Deposit\nCommonwealth,1\n")
+        (self.place / "asked.csv").write_text(
+            "counterparty,kind\nTower Trust,other\nSecond Bank,Deposit\nCommonwealth,1\n"
+        )
         self.check("headroom.txt", "headroom", "mybook", "--questions", "asked.csv")
         self.check("headroom.csv", "headroom", "mybook", "--questions", "asked.csv", "--csv")
         self.check("headroom.json", "headroom", "mybook", "--questions", "asked.csv", "--json")
@@ -153,6 +162,29 @@ class Files(Commands):
         self.run_command("csv", "-", "named", stdin=packed)
         self.assertEqual(read_folder(self.place / "named").assets[2].name, "A3")
 
+    def test_odd_names(self) -> None:
+        """A line stays a line, aligned, and nothing is sent to the terminal but text."""
+        book = books.small()
+        parties = (replace(book.counterparties[0], name="银行\n\x1b[31mred"),)
+        write_folder(replace(book, counterparties=parties), self.place / "odd")
+        lines = self.run_command("report", "odd").out.decode().splitlines()
+        self.assertEqual(len(lines), 12)
+        self.assertTrue(lines[1].startswith("银行  [31mred  (i) "), lines[1])
+        self.assertEqual(lines[0].index("Tier"), lines[1].index("(i)") + 2)
+
+    def test_another_encoding(self) -> None:
+        """The output is UTF-8 whatever the settings say."""
+        book = books.small()
+        write_folder(replace(book, counterparties=(replace(book.counterparties[0], name="Söhne"),)), self.place / "odd")
+        done = subprocess.run(
+            [sys.executable, "-m", "weightrose", "report", "odd"],
+            cwd=self.place,
+            capture_output=True,
+            check=True,
+            env={**os.environ, "PYTHONIOENCODING": "ascii"},
+        )
+        self.assertIn("Söhne".encode(), done.stdout)
+
     def test_output_files(self) -> None:
         self.run_command("report", "mybook", "-o", "report.txt")
         self.assertEqual((self.place / "report.txt").read_text(), (EXPECTED / "report.txt").read_text())
@@ -174,7 +206,14 @@ class Refused(Commands):
     def test_bad_cells(self) -> None:
         self.spoil("assets.csv", "Term deposit,Second Bank,deposit", "Term deposit,Second Bnk,deposits")
         self.spoil("fund.csv", "10000000.00", "ten")
-        for command in (("report",), ("book",), ("page",), ("bills", "--rate", "1"), ("convert",), ("headroom", "--ask", "a", "loan")):
+        for command in (
+            ("report",),
+            ("book",),
+            ("page",),
+            ("bills", "--rate", "1"),
+            ("convert",),
+            ("headroom", "--ask", "a", "loan"),
+        ):
             lines = self.refused(command[0], "mybook", *command[1:])
             self.assertEqual([line.split(": ")[0] for line in lines], [
                 "fund.csv row 2 column capital_base", "assets.csv row 6 column counterparty", "assets.csv row 6 column kind",
@@ -199,7 +238,9 @@ class Refused(Commands):
         ])  # fmt: skip
 
     def test_bytes_that_are_no_book(self) -> None:
-        self.assertEqual(self.refused("report", stdin=b"")[0].split(":")[0:2], ["standard input", " refused 5 0 BOOK_LENGTH"])
+        self.assertEqual(
+            self.refused("report", stdin=b"")[0].split(":")[0:2], ["standard input", " refused 5 0 BOOK_LENGTH"]
+        )
         (self.place / "noise").write_bytes(bytes(range(100)))
         self.assertIn("refused 6 0 BOOK_MARK", self.refused("report", "noise")[0])
         self.assertIn("noise: ", self.refused("csv", "noise", "out")[0])
@@ -212,7 +253,10 @@ class Refused(Commands):
             "a rate is over 1,500 (15,000 in version 2), a percent over 100 or a fixed amount over the most",
         ])  # fmt: skip
         (self.place / "rates.csv").write_text(text.replace("g,125,0,625", "g,125,0,much"))
-        self.assertEqual(self.refused("report", "mybook", "--schedule", "rates.csv"), ["rates.csv row 6 column base_rate_per_mille: 'much' is no whole number"])
+        self.assertEqual(
+            self.refused("report", "mybook", "--schedule", "rates.csv"),
+            ["rates.csv row 6 column base_rate_per_mille: 'much' is no whole number"],
+        )
         (self.place / "short").write_bytes(b"ACL\0")
         self.assertIn("short: refused 1 0 SCHEDULE_LENGTH", self.refused("report", "mybook", "--schedule", "short")[0])
 
@@ -222,12 +266,17 @@ class Refused(Commands):
 
     def test_rate_and_questions(self) -> None:
         self.assertIn("refused 19 0 COST_RATE", self.refused("bills", "mybook", "--rate", "10.01%")[0])
-        (self.place / "asked.csv").write_text("counterparty,kind\nTower Trust,other\nTower Trust,reinsurance\nTower Trust,12\n")
+        (self.place / "asked.csv").write_text(
+            "counterparty,kind\nTower Trust,other\nTower Trust,reinsurance\nTower Trust,12\n"
+        )
         lines = self.refused("headroom", "mybook", "--questions", "asked.csv")
         self.assertEqual([line.split(":")[0] for line in lines], ["asked.csv row 3", "asked.csv row 4"])
         (self.place / "asked.csv").write_text("counterparty,kind\nNobody,other\nTower Trust,gold\n")
         lines = self.refused("headroom", "mybook", "--questions", "asked.csv")
-        self.assertEqual([line.split(":")[0] for line in lines], ["asked.csv row 2 column counterparty", "asked.csv row 3 column kind"])
+        self.assertEqual(
+            [line.split(":")[0] for line in lines],
+            ["asked.csv row 2 column counterparty", "asked.csv row 3 column kind"],
+        )
 
     def test_a_page_of_what_is_refused(self) -> None:
         self.spoil("counterparties.csv", "Second Bank,,bank,5", "Second Bank,,bank,8")
@@ -257,7 +306,10 @@ class Usage(Commands):
 
     def test_another_library(self) -> None:
         """A library that is not this package's is told at the start."""
-        for named, said in (("/nowhere/libweightrose.so", "no shared library"), ("libc.so.6", "has no weightrose_version")):
+        for named, said in (
+            ("/nowhere/libweightrose.so", "no shared library"),
+            ("libc.so.6", "has no weightrose_version"),
+        ):
             done = subprocess.run(
                 [sys.executable, "-m", "weightrose", "report", "mybook"], cwd=self.place, capture_output=True, check=False,
                 env={**os.environ, "WEIGHTROSE_LIBRARY": named},
@@ -267,7 +319,11 @@ class Usage(Commands):
 
     def test_a_reader_that_stops(self) -> None:
         done = subprocess.run(
-            f"{sys.executable} -m weightrose report mybook | head -n 1", cwd=self.place, shell=True, capture_output=True, check=False
+            f"{sys.executable} -m weightrose report mybook | head -n 1",
+            cwd=self.place,
+            shell=True,
+            capture_output=True,
+            check=False,
         )
         self.assertEqual(done.stderr, b"")
         self.assertTrue(done.stdout.startswith(b"Group"))

@@ -11,8 +11,9 @@ from pathlib import Path
 from typing import Callable, Dict, List, Tuple
 
 import books
+
 from weightrose import (
-    Asset, AssetKind, Book, Counterparty, CounterpartyKind, Damaged, EntryClass, Form, Fund, Mitigant, published,
+    Asset, AssetKind, Book, Counterparty, CounterpartyKind, Damaged, EntryClass, Form, Fund, published,
     read_folder, read_schedule, schedule_text, write_folder,
 )  # fmt: skip
 from weightrose.cells import cents, dollars
@@ -153,9 +154,33 @@ class Cells(Folders):
         self.assertEqual(read_folder(self.folder).to_bytes(), expected)
 
     def test_dollars(self) -> None:
-        for text, amount in {"0": 0, "1234.56": 123456, "1234.5": 123450, "7": 700, "-0.01": -1, "-12.30": -1230, "007": 700}.items():
+        for text, amount in {
+            "0": 0,
+            "1234.56": 123456,
+            "1234.5": 123450,
+            "7": 700,
+            "-0.01": -1,
+            "-12.30": -1230,
+            "007": 700,
+        }.items():
             self.assertEqual(cents(text), amount)
-        for text in ("", ".5", "1.", "1,000", "1.234", "1e3", "$1", "+1", " 1", "1 ", "--1", "٣", "0x1", "nan", "1_000"):
+        for text in (
+            "",
+            ".5",
+            "1.",
+            "1,000",
+            "1.234",
+            "1e3",
+            "$1",
+            "+1",
+            " 1",
+            "1 ",
+            "--1",
+            "٣",
+            "0x1",
+            "nan",
+            "1_000",
+        ):
             self.assertIsNone(cents(text), text)
         for amount in (0, 1, 99, 100, -1, -100, 10**15 + 7):
             self.assertEqual(cents(dollars(amount)), amount)
@@ -174,7 +199,9 @@ class Cells(Folders):
             assets="name,kind,counterparty,value_cents\nD,deposit,B,5\n",
             mitigants="asset,form,counterparty,value\n",
         )
-        self.assertEqual(read_folder(self.folder), Book(Fund(10000, 150), (Counterparty("B", kind=1),), (Asset(4, 1, 5, "D"),)))
+        self.assertEqual(
+            read_folder(self.folder), Book(Fund(10000, 150), (Counterparty("B", kind=1),), (Asset(4, 1, 5, "D"),))
+        )
 
     def test_every_word_is_told_apart(self) -> None:
         for kinds in (AssetKind, CounterpartyKind, EntryClass, Form):
@@ -241,7 +268,10 @@ class DamagedFolders(Folders):
         self.write()
         for path in self.folder.iterdir():
             path.write_text(path.read_text(encoding="utf-8").replace(",", ";"), encoding="utf-8")
-        self.assertEqual(self.problems(), [(file, 1, None) for file in ("fund.csv", "counterparties.csv", "assets.csv", "mitigants.csv")])
+        self.assertEqual(
+            self.problems(),
+            [(file, 1, None) for file in ("fund.csv", "counterparties.csv", "assets.csv", "mitigants.csv")],
+        )
 
     def test_files(self) -> None:
         self.write()
@@ -251,13 +281,29 @@ class DamagedFolders(Folders):
         (self.folder / "mitigants.csv").write_bytes(b'asset,form,counterparty,value\n"open,cash,x,1\n')
         self.assertEqual(
             self.problems(),
-            [("fund.csv", None, None), ("counterparties.csv", None, None), ("assets.csv", 2, None), ("mitigants.csv", 2, None)],
+            [
+                ("fund.csv", None, None),
+                ("counterparties.csv", None, None),
+                ("assets.csv", 2, None),
+                ("mitigants.csv", 2, None),
+            ],
         )
 
+    def test_a_folder_for_a_file(self) -> None:
+        self.write()
+        (self.folder / "assets.csv").unlink()
+        (self.folder / "assets.csv").mkdir()
+        self.assertEqual(self.problems(), [("assets.csv", None, None)])
+
     def test_rows(self) -> None:
-        self.write(counterparties="name,kind\nA,bank,extra\n#2,bank\nA,bank\n", assets="name,kind,counterparty,value\n", mitigants="asset,form,counterparty,value\n")
+        self.write(
+            counterparties="name,kind\nA,bank,extra\n#2,bank\nA,bank\n",
+            assets="name,kind,counterparty,value\n",
+            mitigants="asset,form,counterparty,value\n",
+        )
         self.assertEqual(
-            self.problems(), [("counterparties.csv", 2, None), ("counterparties.csv", 3, "name"), ("counterparties.csv", 4, "name")]
+            self.problems(),
+            [("counterparties.csv", 2, None), ("counterparties.csv", 3, "name"), ("counterparties.csv", 4, "name")],
         )
         self.write(fund="total_assets,capital_base\n1,1\n2,2\n")
         self.assertEqual(self.problems(), [("fund.csv", None, None)])
@@ -300,12 +346,19 @@ class Schedules(unittest.TestCase):
         self.assertEqual(read_schedule("s", schedule_text(tenfold).encode()), tenfold)
 
     def test_bad_cells(self) -> None:
-        text = schedule_text(published()).replace("\nd,500", "\nd,many").replace("first step,,,,,66", "first step,,,,,").replace("z,125", "y,125")
+        text = (
+            schedule_text(published())
+            .replace("\nd,500", "\nd,many")
+            .replace("first step,,,,,66", "first step,,,,,")
+            .replace("z,125", "y,125")
+        )
         text = text.replace("20000000.00,\n", "20000000.00,3\n", 1)
         with self.assertRaises(Damaged) as caught:
             read_schedule("s.csv", text.encode())
         found = {(problem.row, problem.column) for problem in caught.exception.problems}
-        self.assertEqual(found, {(9, "row"), (None, None), (2, "percent_kept"), (3, "vaf_rate_per_mille"), (10, "percent_kept")})
+        self.assertEqual(
+            found, {(9, "row"), (None, None), (2, "percent_kept"), (3, "vaf_rate_per_mille"), (10, "percent_kept")}
+        )
 
     def test_mixed_units(self) -> None:
         text = schedule_text(published()).replace("base_rate_per_mille", "base_rate_ten_thousandths")

@@ -30,13 +30,23 @@ class Install(unittest.TestCase):
     def test_a_package_with_its_library(self) -> None:
         """As 'make python' and 'pip install ./python' give it: nothing else tells where the library is."""
         shutil.copyfile(library.load()._name, self.place / "python" / "weightrose" / "libweightrose.so")
-        environment = {key: value for key, value in os.environ.items() if key not in ("PYTHONPATH", "WEIGHTROSE_LIBRARY")}
+        environment = {
+            key: value for key, value in os.environ.items() if key not in ("PYTHONPATH", "WEIGHTROSE_LIBRARY")
+        }
         pip = [sys.executable, "-m", "pip", "--disable-pip-version-check", "install", "--quiet", "--no-index"]
-        subprocess.run([*pip, "--target", "installed", "./python"], cwd=self.place, env=environment, check=True, stderr=subprocess.DEVNULL)
+        subprocess.run(
+            [*pip, "--target", "installed", "./python"],
+            cwd=self.place,
+            env=environment,
+            check=True,
+            stderr=subprocess.DEVNULL,
+        )
         environment["PYTHONPATH"] = str(self.place / "installed")
         command = str(self.place / "installed" / "bin" / "weightrose")
         subprocess.run([command, "template", "mybook"], cwd=self.place, env=environment, check=True)
-        done = subprocess.run([command, "report", "mybook"], cwd=self.place, env=environment, check=True, capture_output=True)
+        done = subprocess.run(
+            [command, "report", "mybook"], cwd=self.place, env=environment, check=True, capture_output=True
+        )
         self.assertEqual(done.stdout.decode(), (EXPECTED / "report.txt").read_text())
 
     def test_the_wheel(self) -> None:

@@ -114,7 +114,9 @@ class Numbers(unittest.TestCase):
 
     def test_no_amount_stands_anywhere_else(self) -> None:
         for book in tried()[:3]:
-            plain = replace(book, counterparties=tuple(replace(p, name=f"name {n}") for n, p in enumerate(book.counterparties)))
+            plain = replace(
+                book, counterparties=tuple(replace(p, name=f"name {n}") for n, p in enumerate(book.counterparties))
+            )
             for text in Reader(page_of(plain)).outside:
                 self.assertIsNone(re.search(r"\d\.\d\d\b|\d,\d{3}", text.replace(__version__, "")), text)
 
@@ -126,7 +128,9 @@ class Numbers(unittest.TestCase):
             best: Dict[int, Fraction] = {}
             for line in found.lines:
                 if line.limit:
-                    best[line.top] = max(best.get(line.top, Fraction(0)), Fraction(line.limit - line.left + line.exposure, line.limit))
+                    best[line.top] = max(
+                        best.get(line.top, Fraction(0)), Fraction(line.limit - line.left + line.exposure, line.limit)
+                    )
             seen: List[Fraction] = []
             for name, value, text in Reader(page_of(book)).data:
                 if name.startswith("share."):
@@ -157,7 +161,7 @@ class Document(unittest.TestCase):
 
     def test_names_are_text(self) -> None:
         book = read_folder(books.TEMPLATE)
-        odd = '<script>alert("1")</script> & \'x\''
+        odd = "<script>alert(\"1\")</script> & 'x'"
         parties = tuple(replace(p, name=f"{odd} {n}") for n, p in enumerate(book.counterparties))
         text = page_of(replace(book, counterparties=parties, fund=replace(book.fund, name=odd)))
         self.assertNotIn("script", Reader(text).tags)

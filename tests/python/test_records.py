@@ -5,7 +5,20 @@ from __future__ import annotations
 import unittest
 
 import books
-from weightrose import Asset, Book, Counterparty, Fund, Malformed, Mitigant, Report, Schedule, convert, library, published, report
+from weightrose import (
+    Asset,
+    Book,
+    Counterparty,
+    Fund,
+    Malformed,
+    Mitigant,
+    Report,
+    Schedule,
+    convert,
+    library,
+    published,
+    report,
+)
 
 
 def u(number: int, size: int) -> bytes:
@@ -28,7 +41,9 @@ class Layouts(unittest.TestCase):
         self.assertEqual(book.to_bytes(), expected)
 
     def test_version_2_has_the_desk_behind_a_count_of_one_byte(self) -> None:
-        book = Book(Fund(1, 2, version=2), (Counterparty(),), (Asset(4, 1, 10, desk=200, mitigants=(Mitigant(1, 1, 5),)),))
+        book = Book(
+            Fund(1, 2, version=2), (Counterparty(),), (Asset(4, 1, 10, desk=200, mitigants=(Mitigant(1, 1, 5),)),)
+        )
         data = book.to_bytes()
         self.assertEqual(data[4:6], b"\2\0")
         self.assertEqual(data[44 + 6 : 44 + 8], b"\1\xc8")
@@ -45,11 +60,15 @@ class Layouts(unittest.TestCase):
         found = Report.from_bytes(data)
         fields = ("vaf", "vaf_stressed", "all_net", "unlimited", "group_excess", "a3_sum", "a3_limit", "charge")
         for place, field in enumerate(fields):
-            self.assertEqual(getattr(found, field), int.from_bytes(data[8 + 8 * place : 16 + 8 * place], "little"), field)
+            self.assertEqual(
+                getattr(found, field), int.from_bytes(data[8 + 8 * place : 16 + 8 * place], "little"), field
+            )
         self.assertEqual(len(found.lines), 2)
         for number, line in enumerate(found.lines):
             own = data[72 + 40 * number : 112 + 40 * number]
-            self.assertEqual((line.top, line.tier, line.tier_set), (own[0] + 256 * own[1], own[2], own[4] + 256 * own[5]))
+            self.assertEqual(
+                (line.top, line.tier, line.tier_set), (own[0] + 256 * own[1], own[2], own[4] + 256 * own[5])
+            )
             for place, field in enumerate(("exposure", "limit", "left", "excess")):
                 self.assertEqual(getattr(line, field), int.from_bytes(own[8 + 8 * place : 16 + 8 * place], "little"))
 
@@ -77,14 +96,24 @@ class ThereAndBack(unittest.TestCase):
             book = books.accepted(seed, version=1)
             again = convert(book)
             self.assertEqual(again.fund.version, 2)
-            self.assertEqual([party.name for party in again.counterparties], [party.name for party in book.counterparties])
+            self.assertEqual(
+                [party.name for party in again.counterparties], [party.name for party in book.counterparties]
+            )
             self.assertEqual(report(again), report(book))
 
 
 class NoRecords(unittest.TestCase):
     def test_bytes_that_do_not_fall_into_records(self) -> None:
         good = books.accepted(3).to_bytes()
-        for data in (b"", good[:39], good[:-1], good + b"\0", b"XCB\0" + good[4:], good[:4] + b"\3\0" + good[6:], good[:13] + b"\1" + good[14:]):
+        for data in (
+            b"",
+            good[:39],
+            good[:-1],
+            good + b"\0",
+            b"XCB\0" + good[4:],
+            good[:4] + b"\3\0" + good[6:],
+            good[:13] + b"\1" + good[14:],
+        ):
             with self.assertRaises(Malformed):
                 Book.from_bytes(data)
         with self.assertRaises(Malformed):

@@ -10,6 +10,7 @@ from typing import Callable, List, Optional, Set, Tuple
 
 import books
 from books import M
+
 from weightrose import (
     Asset, Book, Counterparty, Fund, Mitigant, Number, Refusal, ScheduleRow, bills, convert, headroom, inquiry, library,
     published, read_folder, read_schedule, report, schedule_text, version, write_folder,
@@ -56,10 +57,22 @@ class Entries(unittest.TestCase):
             (lambda: report(book[:4] + b"\3\0" + book[6:]), 7, 0, "fund.csv", 2),
             (lambda: report(Book(Fund(1, 1), tuple(Counterparty(f"c{n}") for n in range(501)))), 8, 0, None, None),
             (lambda: report(books.small(excluded_assets=M + 1)), 9, 0, "fund.csv", 2),
-            (lambda: report(Book(Fund(1, 1), (Counterparty("a"), Counterparty("b", parent=2)))), 10, 2, "counterparties.csv", 3),
+            (
+                lambda: report(Book(Fund(1, 1), (Counterparty("a"), Counterparty("b", parent=2)))),
+                10,
+                2,
+                "counterparties.csv",
+                3,
+            ),
             (lambda: report(asset_refused(kind=12)), 11, 3, "assets.csv", 4),
             (lambda: report(WITH_MITIGANTS), 12, 2, "mitigants.csv", 3),
-            (lambda: report(Book(Fund(1, 1), (Counterparty(),), (Asset(4, 2, 1), Asset(4, 1, 1)))), 11, 1, "assets.csv", 2),
+            (
+                lambda: report(Book(Fund(1, 1), (Counterparty(),), (Asset(4, 2, 1), Asset(4, 1, 1)))),
+                11,
+                1,
+                "assets.csv",
+                2,
+            ),
             (lambda: report(bytes(miscounted[:-12]) + bytes(b"\1\0\1\0" + bytes(8))), 13, 0, None, None),
             (lambda: report(books.with_asset(books.small(total_assets=10**8), TREATY)), 14, 0, "fund.csv", 2),
             (lambda: report(books.small(total_assets=1, excluded_assets=2)), 15, 0, "fund.csv", 2),
@@ -77,7 +90,9 @@ class Entries(unittest.TestCase):
         seen: Set[int] = set()
         for call, number, place, file, row in cases:
             refusal = refusal_of(call)
-            self.assertEqual((refusal.number, refusal.place, refusal.file, refusal.row), (number, place, file, row), str(refusal))
+            self.assertEqual(
+                (refusal.number, refusal.place, refusal.file, refusal.row), (number, place, file, row), str(refusal)
+            )
             self.assertEqual(refusal.name, Number(number).name)
             self.assertIn(f"refused {number} {place} {refusal.name}: ", str(refusal))
             seen.add(number)
@@ -144,10 +159,24 @@ class Rows(unittest.TestCase):
             self.check(asset_refused(**changes), (11, f"assets.csv row 4 column {column}"))
 
     def test_counterparties_and_mitigants(self) -> None:
-        for changes, column in (({"kind": 5}, "kind"), ({"grade": 8}, "grade"), ({"flags": 8}, "flags"), ({"parent": 2}, "parent"), ({"parent": 9}, "parent")):
+        for changes, column in (
+            ({"kind": 5}, "kind"),
+            ({"grade": 8}, "grade"),
+            ({"flags": 8}, "flags"),
+            ({"parent": 2}, "parent"),
+            ({"parent": 9}, "parent"),
+        ):
             party = replace(Counterparty("second"), **changes)  # type: ignore[arg-type]
-            self.check(Book(GOOD.fund, (*GOOD.counterparties, party), GOOD.assets), (10, f"counterparties.csv row 3 column {column}"))
-        for changes, column in (({"form": 0}, "form"), ({"counterparty": 2}, "counterparty"), ({"flags": 32}, "flags"), ({"value": M + 1}, "value")):
+            self.check(
+                Book(GOOD.fund, (*GOOD.counterparties, party), GOOD.assets),
+                (10, f"counterparties.csv row 3 column {column}"),
+            )
+        for changes, column in (
+            ({"form": 0}, "form"),
+            ({"counterparty": 2}, "counterparty"),
+            ({"flags": 32}, "flags"),
+            ({"value": M + 1}, "value"),
+        ):
             mitigant = replace(Mitigant(1, 1, 5), **changes)
             asset = Asset(7, 1, 100, "Third", mitigants=(Mitigant(1, 1, 5), mitigant))
             self.check(books.with_asset(GOOD, asset), (12, f"mitigants.csv row 3 column {column}"))
@@ -155,8 +184,13 @@ class Rows(unittest.TestCase):
     def test_the_fund(self) -> None:
         self.check(books.small(specialist=2), (6, "fund.csv row 2 column specialist"))
         self.check(books.small(total_assets=M + 1), (9, "fund.csv row 2 column total_assets"))
-        self.check(books.small(capital_base=-M - 1, excluded_assets=M + 1), (9, "fund.csv row 2 columns capital_base, excluded_assets"))
-        self.check(books.with_asset(books.small(total_assets=10**8), TREATY), (14, "fund.csv row 2 column total_assets"))
+        self.check(
+            books.small(capital_base=-M - 1, excluded_assets=M + 1),
+            (9, "fund.csv row 2 columns capital_base, excluded_assets"),
+        )
+        self.check(
+            books.with_asset(books.small(total_assets=10**8), TREATY), (14, "fund.csv row 2 column total_assets")
+        )
         self.check(books.small(total_assets=1, excluded_assets=2), (15, "fund.csv row 2"))
 
     def test_all_at_once(self) -> None:
@@ -193,7 +227,9 @@ class Rows(unittest.TestCase):
         """With mitigants in another order than their assets."""
         with tempfile.TemporaryDirectory() as name:
             folder = Path(name)
-            write_folder(books.with_asset(WITH_MITIGANTS, Asset(7, 1, 100, "Fourth", mitigants=(Mitigant(1, 1, 5),))), folder)
+            write_folder(
+                books.with_asset(WITH_MITIGANTS, Asset(7, 1, 100, "Fourth", mitigants=(Mitigant(1, 1, 5),))), folder
+            )
             rows = (folder / "mitigants.csv").read_text().splitlines()
             (folder / "mitigants.csv").write_text("\n".join([rows[0], rows[3], "", rows[1], rows[2]]) + "\n")
             refusal = refusal_of(lambda: report(read_folder(folder)))
