@@ -102,13 +102,13 @@ $(TESTS_OUT)/ledger-shared: $(LEDGER) include/weightrose.h $(SHARED_LIB)
 tests-shared: $(SHARED_LIB)
 	tests/shared.sh $(SHARED_LIB) $(WEIGHTROSE_LIB) include/weightrose.h
 
-PYTHON_ENV = PYTHONPATH=$(abspath python) WEIGHTROSE_LIBRARY=$(abspath $(SHARED_LIB))
+PYTHON_ENV = WEIGHTROSE_LIBRARY=$(abspath $(SHARED_LIB)) PYTHONPATH=$(abspath python)
 
 tests-python: $(SHARED_LIB)
 	$(PYTHON_ENV) $(PYTHON) -m unittest discover --start-directory tests/python --top-level-directory tests/python
 
 test-page: $(SHARED_LIB)
-	$(PYTHON_ENV) $(PYTHON) tests/page/browser.py
+	$(PYTHON_ENV):$(abspath tests/python) $(PYTHON) tests/page/browser.py
 
 tests-install: $(WEIGHTROSE_LIB) $(SHARED_LIB)
 	MAKE='$(MAKE)' tests/install.sh $(TESTS_MAKEFILE) $(abspath $(WEIGHTROSE_LIB))

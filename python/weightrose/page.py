@@ -2,8 +2,8 @@
 
 Each amount stands in a data element that names the report's field, so that a page can be read back.
 Pictures are SVG in percent of their width: they stretch with the page and keep their hatching, and
-print keeps their fills. Their colours are attributes, for a reader without the style sheet, which
-has those of dark screens alone.
+print keeps their fills. Their colours are attributes, for a reader without the style sheet
+(page.css), which has those of dark screens alone.
 """
 
 from __future__ import annotations
@@ -11,11 +11,14 @@ from __future__ import annotations
 import html
 from dataclasses import dataclass
 from fractions import Fraction
+from pathlib import Path
 from typing import Iterable, List, Optional, Sequence, Tuple
 
 from weightrose.inquiry import Finding
 from weightrose.records import Book, Line, Report
-from weightrose.words import Tier
+from weightrose.tables import money, tier_letters
+
+STYLE = Path(__file__).with_name("page.css")
 
 MOST_SEGMENTS = 12
 MOST_LARGEST = 20
@@ -60,11 +63,12 @@ class _Group:
 def page(view: View) -> str:
     """The whole document."""
     body = _refused(view) if view.report is None else _charged(view, view.report)
+    style = STYLE.read_text(encoding="utf-8")
     title = _text(f"{view.title}: asset concentration charge" if view.title else "Asset concentration charge")
     return (
         '<!DOCTYPE html>\n<html lang="en-AU">\n<head>\n<meta charset="utf-8">\n'
         '<meta name="viewport" content="width=device-width, initial-scale=1">\n'
-        f'<meta name="color-scheme" content="light dark">\n<title>{title}</title>\n<style>{_STYLE}</style>\n'
+        f'<meta name="color-scheme" content="light dark">\n<title>{title}</title>\n<style>\n{style}</style>\n'
         f"</head>\n<body>\n{_HATCH}\n<main>\n{body}\n{_answers(view.answers)}\n</main>\n{_footer(view.version)}\n"
         "</body>\n</html>\n"
     )
@@ -74,7 +78,7 @@ def _charged(view: View, report: Report) -> str:
     groups = [_Group(top, _name(view.book, top), lines) for top, lines in report.groups.items()]
     above = sorted((group for group in groups if group.excess), key=lambda group: (-group.excess, group.top))
     sections = _parts(report, above), _cascades(above), _figures(report), _largest(groups)
-    return "\n".join((_headline(view, report, len(above)), *sections))
+    return _joined((_headline(view, report, len(above)), *sections))
 
 
 # Text, names and amounts
@@ -93,13 +97,8 @@ def _name(book: Optional[Book], top: int) -> str:
     return f"#{top}" if book is None else book.counterparty_name(top)
 
 
-def _dollars(cents: int) -> str:
-    sign = "-" if cents < 0 else ""
-    return f"{sign}{abs(cents) // 100:,}.{abs(cents) % 100:02d}"
-
-
 def _amount(field: str, cents: int) -> str:
-    return f'<data value="{cents}" data-field="{field}">{_dollars(cents)}</data>'
+    return f'<data value="{cents}" data-field="{field}">{money(cents)}</data>'
 
 
 def _of_line(line: Line, field: str) -> str:
@@ -121,7 +120,7 @@ def _a3_excess(report: Report) -> int:
 
 
 def _letters(line: Line) -> str:
-    return Tier(line.tier).letters
+    return tier_letters(line.tier)
 
 
 def _counted(count: int, one: str, more: str) -> str:
@@ -131,7 +130,7 @@ def _counted(count: int, one: str, more: str) -> str:
 # Tables
 
 
-def _lines(parts: Iterable[str]) -> str:
+def _joined(parts: Iterable[str]) -> str:
     return "\n".join(parts)
 
 
@@ -150,7 +149,7 @@ def _class(kind: str) -> str:
 
 
 def _section(name: str, heading: str, *parts: str) -> str:
-    inner = "\n".join(part for part in parts if part)
+    inner = _joined(part for part in parts if part)
     return f'<section id="{name}" aria-labelledby="{name}-h">\n<h2 id="{name}-h">{heading}</h2>\n{inner}\n</section>'
 
 
@@ -228,8 +227,8 @@ def _headline(view: View, report: Report, above: int) -> str:
         said = "There is no charge."
     else:
         groups = _counted(above, "group is", "groups are") if above else "No group is"
-        third = "A3 is above its limit" if _a3_excess(report) else "A3 is within its limit"
-        said = f"{groups} above a limit. {third}."
+        a3 = "A3 is above its limit" if _a3_excess(report) else "A3 is within its limit"
+        said = f"{groups} above a limit. {a3}."
     return _head_of_page(view, _of_report(report, "charge"), f"{said} All amounts are in dollars.")
 
 
@@ -239,7 +238,7 @@ def _refused(view: View) -> str:
         return _head_of_page(view, "Refused", "The library turned the book back. Nothing was calculated.")
     places = _counted(len(findings), "place", "places")
     head = _head_of_page(view, "Refused", f"The library turned the book back at {places}. Nothing was calculated.")
-    rows = _lines(f"<tr>{_finding(finding)}</tr>" for finding in findings)
+    rows = _joined(f"<tr>{_finding(finding)}</tr>" for finding in findings)
     caption = f"What the call ‘{_text(view.answers[0].call)}’ refused"
     table = (
         f'<table class="findings">\n<caption>{caption}</caption>\n{_head(*_FINDING_COLUMNS)}\n'
@@ -325,10 +324,10 @@ def _parts_table(report: Report, above: Sequence[_Group]) -> str:
     rows.extend(
         f'<tr{_class(kind)}><td></td><th scope="row">{name}</th>{_cells([amount])}</tr>'
         for kind, name, amount in totals
-    )  # fmt: skip
+    )
     head = _head(("No.", "n no"), ("Group", ""), ("Excess", "n"))
-    said = "The parts of the charge." + (" Each group leads to its cascade." if above else "")
-    return f'<table class="sums">\n<caption>{said}</caption>\n{head}\n<tbody>\n{_lines(rows)}\n</tbody>\n</table>'
+    said = "A group’s excess is the sum of its tiers’ excesses, and A3’s the charge less those of all groups."
+    return f'<table class="sums">\n<caption>{said}</caption>\n{head}\n<tbody>\n{_joined(rows)}\n</tbody>\n</table>'
 
 
 # 3: the cascades
@@ -356,16 +355,14 @@ def _cascades(above: Sequence[_Group]) -> str:
         "tier after it, so each tier is left its limit less what stands in the rows above. What of its exposure passes "
         "that is its excess. Each group has a scale of its own, from 0.</p>"
     )
-    tables = f'<div style="{_widths(above)}">\n{_lines(map(_cascade, above))}\n</div>'
-    return _section(
-        "cascades", "The groups above a limit, tier by tier", said, _legend(_CASCADE_LEGEND), tables
-    )
+    tables = f'<div style="{_widths(above)}">\n{_joined(map(_cascade, above))}\n</div>'
+    return _section("cascades", "The groups above a limit, tier by tier", said, _legend(_CASCADE_LEGEND), tables)
 
 
 def _widths(groups: Sequence[_Group]) -> str:
     """The widths of columns that hold all groups' tiers and amounts, so that the tables stand one below the other."""
     lines = [line for group in groups for line in group.lines]
-    most = _dollars(max(max(line.exposure, line.limit) for line in lines))
+    most = money(max(max(line.exposure, line.limit) for line in lines))
     marks = sum(not character.isdigit() for character in most)
     amount = max(len(most) - marks // 2, 9)
     return f"--tier:{max(len(_letters(line)) for line in lines)}ch;--amount:{amount}ch"
@@ -374,7 +371,7 @@ def _widths(groups: Sequence[_Group]) -> str:
 def _cascade(group: _Group) -> str:
     scale = max(line.limit + line.excess for line in group.lines)
     last = len(group.lines) - 1
-    rows = _lines(_cascade_row(line, scale, at > 0, at < last) for at, line in enumerate(group.lines))
+    rows = _joined(_cascade_row(line, scale, at > 0, at < last) for at, line in enumerate(group.lines))
     return (
         f'<table class="lines" id="group-{group.top}">\n<caption><h3>{_own(group.name)}</h3> '
         f"<p>Excess {_group_excess(group)}</p></caption>\n{_CASCADE_HEAD}\n<tbody>\n{rows}\n</tbody>\n</table>"
@@ -432,7 +429,7 @@ _FIGURES = (
 
 
 def _figures(report: Report) -> str:
-    rows = _lines(
+    rows = _joined(
         f'<tr><th scope="row">{name} <small>{said}</small></th>{_cells([_of_report(report, field)])}</tr>'
         for field, name, said in _FIGURES
     )
@@ -471,13 +468,13 @@ def _largest(groups: Sequence[_Group]) -> str:
     found.sort(key=lambda pair: _rank(pair[1]), reverse=True)
     shown = found[:MOST_LARGEST]
     beyond = any(_rank(line) > (False, Fraction(1)) for _, line in shown)
-    rows = _lines(_largest_row(group, line, 2 if beyond else 1) for group, line in shown)
+    rows = _joined(_largest_row(group, line, 2 if beyond else 1) for group, line in shown)
     head = _head(
         ("Group", ""), ("Tier", ""), ("Of the limit", "pic"), ("Share", "n"),
         ("Exposure", "n"), ("Limit", "n"), ("Left", "n"),
     )  # fmt: skip
     of = f"{len(shown)} of {_counted(len(groups), 'group', 'groups')}"
-    scale = "Bars end at 200 %, with the limit in the middle." if beyond else "Bars end at the limit."
+    scale = "Bars end at twice the limit, which stands in the middle." if beyond else "Bars end at the limit."
     table = f'<table class="largest">\n<caption>{of}, largest share first. {scale}</caption>\n{head}\n<tbody>\n{rows}\n'
     said = (
         "<p>The share is limit less left plus exposure, divided by limit: what the tier and those below it take of the "
@@ -495,31 +492,28 @@ def _largest_row(group: _Group, line: Line, bar_end: int) -> str:
     )
 
 
-def _permille(line: Line) -> Optional[int]:
-    share = _share(line)
-    return None if share is None else share.numerator * 1000 // share.denominator
-
-
 def _share_text(line: Line) -> str:
-    permille = _permille(line)
-    if permille is None:
-        return "no limit"
+    share = _share(line)
+    if share is None:
+        return "limit is 0"
+    permille = share.numerator * 1000 // share.denominator
     field = f"share.{line.top}.{line.tier}"
     return f'<data value="{permille}" data-field="{field}">{permille // 10:,}.{permille % 10} %</data>'
 
 
 def _share_bar(line: Line, bar_end: int) -> str:
-    permille, scale = _permille(line), bar_end * 1000
-    share = scale if permille is None else min(permille, scale)
-    limit = 0 if permille is None else 1000
-    drawn = []
-    if limit:
-        drawn.append(_rect("stands", _PAINT["stands"], "0", _percent(min(share, limit), scale, BAR), 4, 10))
-    if share > limit:
-        width = _width(share - limit, scale, BAR, 2 * LEAST_EXCESS)
-        drawn.append(_rect("excess", _PAINT["excess"], _percent(limit, scale, BAR), width, 4, 10))
-    drawn.append(_upright("limit", _PAINT["limit"], _percent(limit, scale, BAR), 1, 17))
-    return _picture("above the limit" if share > limit else "within the limit", drawn, 18)
+    """A bar that ends at so many times the limit. Without a limit all of it is excess."""
+    share = _share(line)
+    limit = 0 if share is None else 1
+    drawn_to = Fraction(bar_end) if share is None else min(share, Fraction(bar_end))
+    beyond = drawn_to > limit
+    within, whole = min(drawn_to, Fraction(limit)), bar_end * drawn_to.denominator
+    drawn = [_rect("stands", _PAINT["stands"], "0", _percent(int(within * drawn_to.denominator), whole, BAR), 4, 10)]
+    if beyond:
+        width = _width(drawn_to.numerator - limit * drawn_to.denominator, whole, BAR, 2 * LEAST_EXCESS)
+        drawn.append(_rect("excess", _PAINT["excess"], _percent(limit, bar_end, BAR), width, 4, 10))
+    drawn.append(_upright("limit", _PAINT["limit"], _percent(limit, bar_end, BAR), 1, 17))
+    return _picture("above the limit" if beyond else "within the limit", drawn, 18)
 
 
 # 6: what would be refused
@@ -538,7 +532,7 @@ def _finding(finding: Finding) -> str:
 
 
 def _answers(answers: Sequence[Answer]) -> str:
-    rows = _lines(map(_answer, answers))
+    rows = _joined(map(_answer, answers))
     table = (
         '<table class="findings calls">\n<caption>The library’s answer to each call with this book</caption>\n'
         f"{_head(('Call', ''), *_FINDING_COLUMNS)}\n{rows}\n</table>"
@@ -561,130 +555,3 @@ def _footer(version: str) -> str:
         f"<footer><p>{made}; every figure is a field of the report, or a sum or difference of its fields where it says "
         "so.</p></footer>"
     )
-
-
-_STYLE = """
-:root{color-scheme:light dark;--ink:#1b1f24;--soft:#57606a;--rule:#d4d9df;--strong:#8b95a1;--paper:#fff;--link:#1a5a9e;
---gap:1.1rem}
-*{box-sizing:border-box}
-html{background:var(--paper);-webkit-text-size-adjust:100%;text-size-adjust:100%}
-body{max-width:74rem;margin:0 auto;padding:clamp(1rem,4vw,3rem);background:var(--paper);color:var(--ink);
-font:0.9375rem/1.5 system-ui,-apple-system,"Segoe UI",Roboto,"Helvetica Neue",Arial,sans-serif}
-p{margin:0 0 .75rem;max-width:48rem}
-footer p{max-width:none}
-bdi{overflow-wrap:anywhere}
-h1{font-size:1.5rem;line-height:1.25;font-weight:600;margin:0}
-h2{font-size:1.2rem;line-height:1.3;font-weight:600;margin:3.25rem 0 .75rem}
-h3{font-size:1rem;line-height:1.35;font-weight:600;margin:0}
-a{color:var(--link);text-decoration-thickness:1px;text-underline-offset:.18em}
-small{font-size:.875em;font-weight:400;color:var(--soft)}
-data,.n{font-variant-numeric:tabular-nums;white-space:nowrap}
-.soft,footer,caption{color:var(--soft)}
-.soft{margin:0 0 .25rem}
-.large{font-size:clamp(1.25rem,6.4vw,3.25rem);line-height:1.15;font-weight:600;letter-spacing:-.015em;
-margin:.6rem 0 .6rem;max-width:none}
-footer{margin-top:3.5rem;padding-top:.9rem;border-top:1px solid var(--rule);font-size:.875rem}
-figure{margin:0 0 1.25rem}
-svg{display:block;overflow:visible}
-.defs{position:absolute}
-.swatch{display:inline-block;vertical-align:-2px;margin-right:.25rem}
-text{fill:#2a1a00;font-weight:600;font-variant-numeric:tabular-nums}
-.gap{stroke:var(--paper)}
-.legend{list-style:none;margin:.6rem 0 1.25rem;padding:0;display:flex;flex-wrap:wrap;gap:.25rem 1.5rem;
-font-size:.875rem}
-table{width:100%;border-collapse:collapse;font-size:.875rem;line-height:1.4}
-caption{text-align:left;padding:0 0 .5rem}
-th,td{text-align:left;vertical-align:top;padding:.3rem 0 .3rem var(--gap)}
-th:first-child,td:first-child{padding-left:0}
-th{font-weight:400}
-thead th{font-weight:600;color:var(--soft);vertical-align:bottom;border-bottom:1px solid var(--strong)}
-tbody th,tbody td{border-top:1px solid var(--rule)}
-.sums,.largest,.findings{border-bottom:1px solid var(--rule)}
-.n{text-align:right}
-.sums{max-width:46rem}
-.no{width:2.6rem;color:var(--soft)}
-.sums small{display:inline-block;margin-left:.4rem}
-.sub th,.sub td,.total th,.total td{border-top-color:var(--strong)}
-.total th,.total td{font-weight:600}
-.lines{margin:2rem 0 0}
-.lines caption{color:var(--ink)}
-.lines caption p{margin:0;color:var(--soft)}
-.lines th,.lines td{vertical-align:middle}
-.lines tbody th,.lines tbody td{border:0;padding-top:0;padding-bottom:0}
-.lines{table-layout:fixed}
-.lines th:first-child{width:min(var(--tier)*.9,10.5rem)}
-.lines .n{width:calc(var(--amount) + var(--gap) + .1rem)}
-.largest .pic{width:14%;min-width:5rem;padding-top:.35rem;padding-bottom:0}
-.largest thead .pic{padding-bottom:.3rem}
-.largest .tier{white-space:nowrap}
-.findings tbody th{font-weight:600}
-.code{white-space:nowrap}
-.calls td:first-child{padding-left:var(--gap)}
-@media screen and (prefers-color-scheme:dark){
-:root{--ink:#e4e7eb;--soft:#a4adb8;--rule:#343b44;--strong:#69737f;--paper:#14171b;--link:#93bff2}
-.below{fill:#6b7580}
-.stands{fill:#6aa2df}
-.room{stroke:#97a1ac}
-.limit{stroke:#f2f4f6}
-.step{stroke:#97a1ac}
-rect.excess{stroke:#f3a544}
-}
-@media screen and (max-width:66rem){
-.lines,.largest,:is(.lines,.largest) :is(caption,thead,tbody,th,td){display:block}
-:is(.lines,.largest) tr{display:grid;column-gap:1rem}
-:is(.lines,.largest) :is(th,td){padding-left:0;border:0}
-:is(.lines,.largest) :is(.pic,.n,th:first-child){width:auto;min-width:0}
-:is(.lines,.largest) tbody tr{padding:.5rem 0;border-bottom:1px solid var(--rule)}
-.lines tr{grid-template-columns:minmax(0,1fr) repeat(4,var(--amount))}
-.lines thead tr{border-bottom:1px solid var(--strong)}
-.lines .pic{grid-row:2;grid-column:1/-1}
-.lines thead .pic,.largest thead{position:absolute;width:1px;height:1px;overflow:hidden;clip-path:inset(50%)}
-.largest tbody tr{grid-template-columns:repeat(4,minmax(0,1fr))}
-.largest tbody :is(th,.tier){grid-column:span 2}
-.largest tbody .pic{grid-column:1/-1}
-.largest tbody .n{text-align:left}
-:is(.lines,.largest) tbody .n::before{display:block;color:var(--soft);font-size:.8125rem}
-.largest .n:nth-child(4)::before{content:"Share"}
-.largest .n:nth-child(5)::before{content:"Exposure"}
-.largest .n:nth-child(6)::before{content:"Limit"}
-.largest .n:nth-child(7)::before{content:"Left"}
-.step{display:none}
-}
-@media screen and (max-width:49.9rem){
-:root{--gap:.6rem}
-.no{width:1.9rem}
-.tight{display:none}
-.sums small{display:block;margin:0}
-.sums small data{white-space:normal;overflow-wrap:anywhere}
-:is(.lines,.findings) thead{position:absolute;width:1px;height:1px;overflow:hidden;clip-path:inset(50%)}
-:is(.lines,.largest) tbody tr{grid-template-columns:repeat(auto-fit,minmax(8.75rem,1fr));row-gap:.3rem}
-:is(.lines,.largest) tbody :is(th,.pic,.tier){grid-row:auto;grid-column:1/-1}
-.lines tbody th{font-weight:600}
-.lines tbody .n{text-align:left}
-.lines .n:nth-child(3)::before{content:"Exposure"}
-.lines .n:nth-child(4)::before{content:"Limit"}
-.lines .n:nth-child(5)::before{content:"Left"}
-.lines .n:nth-child(6)::before{content:"Excess"}
-.findings,.findings :is(caption,tbody,tr,th,td){display:block}
-.findings :is(th,td,td:first-child){padding:0;border:0}
-.largest :is(th,td){padding-top:0;padding-bottom:0}
-.findings tr{padding:.5rem 0}
-.findings tbody{border-top:1px solid var(--rule)}
-}
-@page{size:A4;margin:15mm 14mm 16mm}
-@media print{
-:root{color-scheme:light;--gap:2.5mm}
-*{print-color-adjust:exact;-webkit-print-color-adjust:exact}
-html{font-size:12.5px}
-body{max-width:none;padding:0}
-.large{font-size:28pt}
-h2{margin-top:9mm}
-h2,h2+p,caption,.legend{break-after:avoid}
-a{color:inherit;text-decoration:none}
-tr,figure,.legend,.lines,.short{break-inside:avoid}
-tbody tr:first-child{break-before:avoid}
-.lines{margin-top:6mm}
-.lines th:first-child{width:min(var(--tier)*.85,25mm)}
-.largest .pic{min-width:20mm}
-}
-"""

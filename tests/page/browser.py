@@ -16,15 +16,16 @@ import tempfile
 import unicodedata
 from collections import Counter
 from pathlib import Path
-from typing import Any, Callable, Dict, List, Optional, Tuple
+from typing import Any, Dict, List, Optional, Tuple
 
 import books
-from weightrose import Book, Refusal, __version__, library, read_folder, report
-from weightrose.inquiry import refusals_of
-from weightrose.page import Answer, View, page
+import shown
+from weightrose import Book, library, read_folder
+from weightrose.command import view_of
+from weightrose.inputs import BookInput, ScheduleInput
+from weightrose.page import View, page
 
 OUT = Path("target/tests/page")
-TEMPLATE = Path("python/weightrose/template")
 PROGRAMS = ("chromium", "pdftotext", "pdftoppm")
 BROWSER = ("chromium", "--headless=new", "--no-sandbox", "--disable-gpu", "--hide-scrollbars", "--no-first-run")
 DARK = "--blink-settings=preferredColorScheme=0"
@@ -117,31 +118,18 @@ class Amounts(html.parser.HTMLParser):
 # Views and their pages
 
 
-def view_of(book: Book) -> View:
-    schedule = library.published()
-    calls: Dict[str, Callable[[bytes], object]] = {
-        "Report": lambda data: library.report(schedule, data),
-        "Bills": lambda data: library.bills(schedule, data, 450),
-        "Questions of dealers": lambda data: library.headroom(schedule, data, b""),
-        "Conversion to version 2": library.convert,
-    }
-    answers = tuple(Answer(name, tuple(refusals_of(book, ask))) for name, ask in calls.items())
-    try:
-        return View(book.fund.name, book, report(book), answers, __version__)
-    except Refusal:
-        return View(book.fund.name, book, None, answers, __version__)
+def view(book: Book) -> View:
+    return view_of(BookInput(book.to_bytes(), book, None, book.fund.name), ScheduleInput(library.published(), None, ""))
 
 
 def views() -> Dict[str, View]:
-    found = {
-        "example": view_of(books.example()),
-        "maximal": view_of(books.maximal()),
-        "without-charge": view_of(books.without_charge()),
-        "refused": view_of(books.refused()),
+    return {
+        "template": view(read_folder(books.TEMPLATE)),
+        "example": view(shown.example()),
+        "maximal": view(shown.maximal()),
+        "without-charge": view(shown.without_charge()),
+        "refused": view(shown.refused()),
     }
-    if (TEMPLATE / "fund.csv").exists():
-        found["template"] = view_of(read_folder(TEMPLATE))
-    return found
 
 
 # The browser
@@ -242,16 +230,16 @@ class Words(html.parser.HTMLParser):
             self.far = max(self.far, numbers["xmax"] - self.edge)
 
 
-def check_print(checks: Checks, name: str, view: View, source: str, folder: Path) -> None:
+def check_print(checks: Checks, name: str, of: View, source: str, folder: Path) -> None:
     pdf = str(OUT / f"{name}.pdf")
     browse(DARK, "--no-pdf-header-footer", f"--print-to-pdf={pdf}", written(folder, "printed", source))
     text = poppler("pdftotext", "-raw", pdf, "-").decode()
-    if view.report is None:
+    if of.report is None:
         checks.that("Refused" in text, f"{name}: print without 'Refused'")
     else:
-        groups = view.report.groups.items()
+        groups = of.report.groups.items()
         above = [top for top, lines in groups if any(line.excess for line in lines)]
-        names = [view.book.counterparty_name(top) if view.book else f"#{top}" for top in above]
+        names = [of.book.counterparty_name(top) if of.book else f"#{top}" for top in above]
         lost = [text_of for text_of in names if plain(text_of) not in plain(text)]
         checks.that(not lost, f"{name}: print without the groups {lost[:3]}")
         words = Counter(word.rstrip(",") for word in text.split())
@@ -291,6 +279,7 @@ def shoot(folder: Path, name: str, source: str, width: int, height: int, *flags:
 
 def shoot_all(checks: Checks, pages: Dict[str, str], folder: Path) -> None:
     shots: Tuple[Tuple[str, str, int, int, Tuple[str, ...]], ...] = (
+        ("template-light", "template", 1280, 2600, ()),
         ("example-light", "example", 1280, 2900, ()),
         ("example-dark", "example", 1280, 2900, (DARK,)),
         ("example-phone", "example", 360, 6200, ()),
@@ -304,14 +293,14 @@ def shoot_all(checks: Checks, pages: Dict[str, str], folder: Path) -> None:
 
 def run(folder: Path) -> Checks:
     checks = Checks()
-    shown = views()
-    pages = {name: page(view) for name, view in shown.items()}
-    checks.that(shown["refused"].report is None, "the refused book is taken")
+    seen = views()
+    pages = {name: page(of) for name, of in seen.items()}
+    checks.that(seen["refused"].report is None, "the refused book is taken")
     for name, source in pages.items():
         check_text(checks, name, source)
         check_layout(checks, name, measured(folder, source), dark=False)
         check_layout(checks, name, measured(folder, source, DARK), dark=True)
-        check_print(checks, name, shown[name], source, folder)
+        check_print(checks, name, seen[name], source, folder)
     check_that_faults_are_found(checks, pages["example"], folder)
     shoot_all(checks, pages, folder)
     return checks

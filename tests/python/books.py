@@ -99,38 +99,6 @@ def any_bytes(seed: int) -> Book:
     return Book(fund, parties, held)
 
 
-def maximal(seed: int = 1) -> Book:
-    """As many records as a book may have, and many groups with an excess."""
-    choose = random.Random(seed)
-    parties = tuple(
-        Counterparty(
-            f"Counterparty {place}",
-            choose.randrange(place) if place % 3 == 0 else 0,
-            choose.randrange(5),
-            choose.randrange(8),
-        )
-        for place in range(1, 501)
-    )
-    held = []
-    for place in range(1, 901):
-        own = tuple(
-            Mitigant(choose.randrange(1, 6), choose.randrange(1, 501), choose.randrange(10**8), 31)
-            for _ in range(1 + (place <= 600))
-        )
-        kind = choose.choice((3, 4, 5, 6, 7, 8, 10, 11))
-        held.append(
-            Asset(
-                kind,
-                choose.randrange(1, 501),
-                choose.randrange(10**9),
-                f"Asset {place}",
-                desk=place % 256,
-                mitigants=own,
-            )
-        )
-    return Book(Fund(2 * 10**10, 10**9, 0, 0, 2, "Maximal fund"), parties, tuple(held))
-
-
 def small(**fund: int) -> Book:
     """One ungraded name with two assets of 3,000,000.00, kinds 11 and 6: a charge of 1,000,000.00."""
     parties = (Counterparty("Quarry"),)

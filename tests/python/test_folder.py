@@ -11,6 +11,7 @@ from pathlib import Path
 from typing import Callable, Dict, List, Tuple
 
 import books
+import shown
 
 from weightrose import (
     Asset, AssetKind, Book, Counterparty, CounterpartyKind, Damaged, EntryClass, Form, Fund, published,
@@ -64,16 +65,25 @@ class ThereAndBack(Folders):
             self.assertEqual(read_folder(self.folder), book, seed)
 
     def test_the_largest_book(self) -> None:
-        write_folder(books.maximal(), self.folder)
-        self.assertEqual(read_folder(self.folder), books.maximal())
+        write_folder(shown.maximal(), self.folder)
+        self.assertEqual(read_folder(self.folder), shown.maximal())
 
     def test_rows_of_the_records(self) -> None:
         """The row of each record is the one of its file, blank rows counted."""
         self.write()
-        self.edit("assets.csv", lambda rows: rows.insert(3, [""] * 12))
+        for file in ("fund.csv", "counterparties.csv", "assets.csv", "mitigants.csv"):
+            self.edit(file, lambda rows: rows.insert(1 if len(rows) == 2 else 3, [""] * len(rows[0])))
         book = read_folder(self.folder)
-        self.assertEqual([asset.row for asset in book.assets[:4]], [2, 3, 5, 6])
-        self.assertEqual(book.fund.row, 2)
+        self.assertEqual(book.fund.row, 3)
+        for records in (book.counterparties, book.assets, book.mitigants):
+            self.assertEqual([record.row for record in records[:4]], [2, 3, 5, 6])
+
+    def test_rows_with_a_line_break_in_a_cell(self) -> None:
+        """A spreadsheet counts rows, not lines."""
+        self.write()
+        self.edit("assets.csv", lambda rows: rows[1].__setitem__(0, "Treasury\nnotes"))
+        self.edit("assets.csv", lambda rows: rows[3].__setitem__(2, "shares"))
+        self.assertEqual(self.problems(), [("assets.csv", 4, "kind")])
 
     def test_mitigants_in_any_order(self) -> None:
         """They are packed with their assets, in the order of the file among one asset's own."""

@@ -10,6 +10,7 @@ from html.parser import HTMLParser
 from typing import Dict, List, Optional, Set, Tuple
 
 import books
+import shown
 from weightrose import Asset, Book, Report, __version__, library, read_folder, report
 from weightrose.command import view_of
 from weightrose.inputs import BookInput, ScheduleInput
@@ -65,7 +66,7 @@ class Reader(HTMLParser):
             self.outside.append(data)
 
 
-def shown(amount: int) -> str:
+def dollars(amount: int) -> str:
     return f"{amount // 100:,}.{amount % 100:02d}"
 
 
@@ -87,7 +88,7 @@ def page_of(book: Book, schedule: Optional[bytes] = None) -> str:
 
 
 def tried() -> List[Book]:
-    every = [read_folder(books.TEMPLATE), books.small(), books.maximal()]
+    every = [read_folder(books.TEMPLATE), shown.example(), shown.maximal(), books.small(), shown.without_charge()]
     return every + [books.accepted(seed) for seed in range(25)]
 
 
@@ -102,7 +103,7 @@ class Numbers(unittest.TestCase):
                 if name.startswith("share."):
                     continue
                 self.assertEqual(fields[name], value, name)
-                self.assertEqual(text, shown(value), name)
+                self.assertEqual(text, dollars(value), name)
             printed = {name for name, _, _ in reader.data}
             self.assertLessEqual(set(HEADER), printed)
             for line in found.lines:

@@ -1,4 +1,4 @@
-"""Books for the checks of the page."""
+"""Books to look at: what a page has to show, and the largest there are."""
 
 from __future__ import annotations
 
