@@ -279,7 +279,7 @@ def shoot(folder: Path, name: str, source: str, width: int, height: int, *flags:
 
 def shoot_all(checks: Checks, pages: Dict[str, str], folder: Path) -> None:
     shots: Tuple[Tuple[str, str, int, int, Tuple[str, ...]], ...] = (
-        ("template-light", "template", 1280, 2600, ()),
+        ("template-light", "template", 1180, 1330, ()),
         ("example-light", "example", 1280, 2900, ()),
         ("example-dark", "example", 1280, 2900, (DARK,)),
         ("example-phone", "example", 360, 6200, ()),
