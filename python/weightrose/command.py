@@ -10,7 +10,7 @@ import sys
 from pathlib import Path
 from typing import Callable, List, Optional, Sequence, Tuple
 
-from weightrose import __version__, desk, folder, inquiry, library, page, rates, tables
+from weightrose import __version__, entries, folder, inquiry, library, page, rates, tables
 from weightrose.cells import Damaged
 
 from weightrose.inputs import (
@@ -112,7 +112,7 @@ def run_headroom(options: argparse.Namespace) -> int:
     asked = asked_of(options, book.records)
     questions = [(question.counterparty, question.kind) for question in asked]
     try:
-        answers = desk.headroom(book.data, questions, schedule.data)
+        answers = entries.headroom(book.data, questions, schedule.data)
     except Refusal as refusal:
         refused = inquiry.refused_questions(schedule.data, book.data, questions)
         wheres = [f"{asked[place].where}: " for place in refused] or [""]
@@ -128,7 +128,9 @@ def run_convert(options: argparse.Namespace) -> int:
     if options.csv is None:
         write_data(data, options.output)
     else:
-        write_tables(folder.tables_of(desk.named_as(Book.from_bytes(data), book.records)), options.csv, options.force)
+        write_tables(
+            folder.tables_of(entries.named_as(Book.from_bytes(data), book.records)), options.csv, options.force
+        )
     return 0
 
 
@@ -145,7 +147,7 @@ def view_of(book: BookInput, schedule: ScheduleInput) -> page.View:
         page.Answer(name, tuple(wrong if wrong and ask is not library.convert else book.findings(ask)))
         for name, ask in calls
     )
-    report = None if answers[0].findings else desk.report(book.data, schedule.data)
+    report = None if answers[0].findings else entries.report(book.data, schedule.data)
     return page.View(book.title, book.book, report, answers, __version__)
 
 

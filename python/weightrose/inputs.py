@@ -11,7 +11,7 @@ from weightrose import folder, inquiry, library, rates
 from weightrose.cells import Columns, Damaged, Problem, Row, table
 from weightrose.inquiry import Finding
 from weightrose.records import SCHEDULE_MARK, Book, Malformed, Schedule
-from weightrose.refusals import Number, Refusal
+from weightrose.refusals import Refusal, RefusalNumber
 from weightrose.words import AssetKind
 
 # What a file of CSV has rows of, to speak of the records of a book in bytes.
@@ -120,7 +120,7 @@ def answered(book: BookInput, schedule: Optional[ScheduleInput], ask: Callable[[
     try:
         return ask(book.data)
     except Refusal as refusal:
-        if schedule is not None and refusal.number <= Number.SCHEDULE_RATES:
+        if schedule is not None and refusal.number <= RefusalNumber.SCHEDULE_RATES:
             raise TurnedBack(list(map(str, schedule.findings()))) from None
         raise TurnedBack(list(map(book.said, book.findings(ask)))) from None
 

@@ -11,13 +11,13 @@ from dataclasses import dataclass, replace
 from typing import Any, Callable, Dict, List, Optional, Sequence, Tuple, Union
 
 from weightrose import library
-from weightrose.desk import Question, located, question_bytes
+from weightrose.entries import Question, located, question_bytes
 
 from weightrose.records import (
     ASSET_SIZE, COUNTERPARTY, FUND, MITIGANT, ROW_NAMES,
     Asset, Book, Counterparty, Fund, Mitigant, Schedule, ScheduleRow,
 )  # fmt: skip
-from weightrose.refusals import Number, Refusal
+from weightrose.refusals import Refusal, RefusalNumber
 from weightrose.words import AssetKind, Form
 
 Ask = Callable[[bytes], object]
@@ -33,12 +33,17 @@ _RATE_COLUMNS = ("vaf_rate", "second_vaf_rate", "base_rate", "fixed_amount")
 
 # Where one column is all that a refusal can be about.
 _ONLY_COLUMN = {
-    Number.BOOK_VERSION: ("version",),
-    Number.REINSURANCE_VALUES: ("total_assets",),
-    Number.SPECIALIST_ENTRY: ("entry_class",),
+    RefusalNumber.BOOK_VERSION: ("version",),
+    RefusalNumber.REINSURANCE_VALUES: ("total_assets",),
+    RefusalNumber.SPECIALIST_ENTRY: ("entry_class",),
 }
 # Sums over all records, which mean nothing once a record is replaced.
-_SUMS = (Number.MITIGANT_COUNTS, Number.REINSURANCE_VALUES, Number.STRESSED_ASSETS, Number.MANY_MITIGANTS)
+_SUMS = (
+    RefusalNumber.MITIGANT_COUNTS,
+    RefusalNumber.REINSURANCE_VALUES,
+    RefusalNumber.STRESSED_ASSETS,
+    RefusalNumber.MANY_MITIGANTS,
+)
 
 
 @dataclass(frozen=True)
@@ -98,22 +103,22 @@ class _Probe:
 
     def slot(self, refusal: Refusal) -> Optional[_Slot]:
         """The record that a refusal is about, if it is about one."""
-        number = Number(refusal.number)
+        number = RefusalNumber(refusal.number)
         index = refusal.place - 1
         assets_at = FUND.size + COUNTERPARTY.size * len(self._counterparties)
-        if number in (Number.BOOK_MARK, Number.BOOK_AMOUNTS):
+        if number in (RefusalNumber.BOOK_MARK, RefusalNumber.BOOK_AMOUNTS):
             counts = len(self._counterparties), len(self._assets), len(self._mitigants)
             empty = replace(self._fund[0], total_assets=0, capital_base=0, excluded_assets=0, specialist=0)
             return _Slot(self._fund, 0, 0, _FUND_COLUMNS, empty, lambda fund: Fund.to_bytes(fund, *counts))
-        if number is Number.COUNTERPARTY:
+        if number is RefusalNumber.COUNTERPARTY:
             at = FUND.size + COUNTERPARTY.size * index
             return _Slot(self._counterparties, index, at, _COUNTERPARTY_COLUMNS, Counterparty(), Counterparty.to_bytes)
-        if number in (Number.ASSET, Number.SPECIALIST_ENTRY):
+        if number in (RefusalNumber.ASSET, RefusalNumber.SPECIALIST_ENTRY):
             own = self._assets[index]
             bare = Asset(AssetKind.OTHER, 1, 0, desk=own.desk, mitigants=own.mitigants)
             at = assets_at + ASSET_SIZE * index
             return _Slot(self._assets, index, at, _ASSET_COLUMNS, bare, lambda a: Asset.to_bytes(a, self._version))
-        if number is Number.MITIGANT:
+        if number is RefusalNumber.MITIGANT:
             at = assets_at + ASSET_SIZE * len(self._assets) + MITIGANT.size * index
             return _Slot(self._mitigants, index, at, _MITIGANT_COLUMNS, Mitigant(Form.CASH, 1, 0), Mitigant.to_bytes)
         return None
@@ -157,12 +162,12 @@ def _refusal(ask: Ask, data: bytes) -> Optional[Refusal]:
 
 
 def _name(book: Book, refusal: Refusal) -> str:
-    number = Number(refusal.number)
-    if number is Number.COUNTERPARTY:
+    number = RefusalNumber(refusal.number)
+    if number is RefusalNumber.COUNTERPARTY:
         return book.counterparties[refusal.place - 1].name
-    if number in (Number.ASSET, Number.SPECIALIST_ENTRY, Number.MANY_MITIGANTS):
+    if number in (RefusalNumber.ASSET, RefusalNumber.SPECIALIST_ENTRY, RefusalNumber.MANY_MITIGANTS):
         return book.assets[refusal.place - 1].name
-    if number is Number.MITIGANT:
+    if number is RefusalNumber.MITIGANT:
         counted = 0
         for asset in book.assets:
             counted += len(asset.mitigants)
@@ -179,7 +184,7 @@ def _finding(book: Book, number: int, place: int, columns: Sequence[str]) -> Fin
 def _next(book: Book, probe: _Probe, refusal: Refusal) -> Tuple[List[Finding], bool]:
     """What a refusal is about, and whether the library can be asked for more."""
     slot = probe.slot(refusal)
-    columns = _ONLY_COLUMN.get(Number(refusal.number))
+    columns = _ONLY_COLUMN.get(RefusalNumber(refusal.number))
     if slot is None or columns is not None:
         if slot is not None:
             probe.put(slot, slot.empty)
@@ -194,7 +199,7 @@ def _follows(refusal: Refusal, found: Sequence[Finding]) -> bool:
     """Whether a refusal may come of what was taken out: a sum over all records, or a retrocession
     where the mark of a specialist fund was taken out."""
     marked = any("specialist" in finding.columns for finding in found)
-    return bool(found) and refusal.number in _SUMS or marked and refusal.number == Number.SPECIALIST_ENTRY
+    return bool(found) and refusal.number in _SUMS or marked and refusal.number == RefusalNumber.SPECIALIST_ENTRY
 
 
 def refusals_of(book: Union[Book, bytes], ask: Ask) -> List[Finding]:
@@ -221,12 +226,12 @@ def schedule_refusals_of(schedule: Union[Schedule, bytes], file: str) -> List[Fi
 
     def refusal_of(tried: Schedule) -> Optional[Refusal]:
         refusal = _refusal(lambda s: library.report(s, b""), tried.to_bytes())
-        return refusal if refusal is not None and refusal.number <= Number.SCHEDULE_RATES else None
+        return refusal if refusal is not None and refusal.number <= RefusalNumber.SCHEDULE_RATES else None
 
     refusal = _refusal(lambda s: library.report(s, b""), data)
-    if refusal is None or refusal.number > Number.SCHEDULE_RATES:
+    if refusal is None or refusal.number > RefusalNumber.SCHEDULE_RATES:
         return []
-    if not isinstance(schedule, Schedule) or refusal.number != Number.SCHEDULE_RATES:
+    if not isinstance(schedule, Schedule) or refusal.number != RefusalNumber.SCHEDULE_RATES:
         return [Finding(Refusal(refusal.number, refusal.place, file))]
     found = []
     empty = Schedule((ScheduleRow(),) * len(ROW_NAMES), 0, 0, schedule.version)
@@ -253,6 +258,6 @@ def refused_questions(schedule: bytes, book: bytes, questions: Sequence[Question
 
     def alone(question: Question) -> bool:
         refusal = _refusal(lambda q: library.headroom(schedule, book, q), question_bytes([question]))
-        return refusal is not None and refusal.number == Number.QUESTIONS
+        return refusal is not None and refusal.number == RefusalNumber.QUESTIONS
 
     return [place for place, question in enumerate(questions) if alone(question)]

@@ -6,7 +6,7 @@ import enum
 from typing import Optional
 
 
-class Number(enum.IntEnum):
+class RefusalNumber(enum.IntEnum):
     """The refusals, by the names that weightrose.h has for them."""
 
     SCHEDULE_LENGTH = 1
@@ -33,41 +33,41 @@ class Number(enum.IntEnum):
 
 
 MEANINGS = {
-    Number.SCHEDULE_LENGTH: "the schedule is not of 122 bytes",
-    Number.SCHEDULE_MARK: "the schedule does not start with 'ACL' and a zero byte",
-    Number.SCHEDULE_VERSION: "the schedule's version is neither 1 nor 2",
-    Number.SCHEDULE_RATES: "a rate is over 1,500 (15,000 in version 2), a percent over 100 or a fixed amount over the most",
-    Number.BOOK_LENGTH: "the book is shorter than its header of 40 bytes",
-    Number.BOOK_MARK: "the book's mark, its byte for a specialist fund or its zero bytes are not as they must be",
-    Number.BOOK_VERSION: "the book's version is neither 1 nor 2; of a book to be converted, it is not 1",
-    Number.BOOK_COUNTS: "over 500 counterparties, 900 assets or 1,500 mitigants, or another length than the counts say",
-    Number.BOOK_AMOUNTS: "total assets, capital base or excluded assets are out of range",
-    Number.COUNTERPARTY: "a counterparty has a bad field or an unknown flag",
-    Number.ASSET: "an asset has a bad field, an unknown flag or an amount over the most",
-    Number.MITIGANT: "a mitigant has a bad field, an unknown flag or an amount over the most",
-    Number.MITIGANT_COUNTS: "the assets' counts of mitigants do not add up to the book's mitigants",
-    Number.REINSURANCE_VALUES: "the values of reinsurance add up to more than the total assets",
-    Number.STRESSED_ASSETS: "the assets under stress (VAF') are below 0 or over the most",
-    Number.BUFFER_SHORT: "too few bytes were lent",
-    Number.SPECIALIST_ENTRY: "an asset is a retrocession (entry class 3) in a book that is no specialist fund's",
-    Number.MANY_MITIGANTS: "an asset of a book to be converted has more than 255 mitigants",
-    Number.COST_RATE: "the cost rate is over 1,000 ten-thousandths",
-    Number.QUESTIONS: "a question's counterparty is not in the book, its kind can't be bought, or there are over 200",
-    Number.ANSWERS_SHORT: "too few bytes were lent for the answers",
+    RefusalNumber.SCHEDULE_LENGTH: "the schedule is not of 122 bytes",
+    RefusalNumber.SCHEDULE_MARK: "the schedule does not start with 'ACL' and a zero byte",
+    RefusalNumber.SCHEDULE_VERSION: "the schedule's version is neither 1 nor 2",
+    RefusalNumber.SCHEDULE_RATES: "a rate is over 1,500 (15,000 in version 2), a percent over 100 or a fixed amount over the most",
+    RefusalNumber.BOOK_LENGTH: "the book is shorter than its header of 40 bytes",
+    RefusalNumber.BOOK_MARK: "the book's mark, its byte for a specialist fund or its zero bytes are not as they must be",
+    RefusalNumber.BOOK_VERSION: "the book's version is neither 1 nor 2; of a book to be converted, it is not 1",
+    RefusalNumber.BOOK_COUNTS: "over 500 counterparties, 900 assets or 1,500 mitigants, or another length than the counts say",
+    RefusalNumber.BOOK_AMOUNTS: "total assets, capital base or excluded assets are out of range",
+    RefusalNumber.COUNTERPARTY: "a counterparty has a bad field or an unknown flag",
+    RefusalNumber.ASSET: "an asset has a bad field, an unknown flag or an amount over the most",
+    RefusalNumber.MITIGANT: "a mitigant has a bad field, an unknown flag or an amount over the most",
+    RefusalNumber.MITIGANT_COUNTS: "the assets' counts of mitigants do not add up to the book's mitigants",
+    RefusalNumber.REINSURANCE_VALUES: "the values of reinsurance add up to more than the total assets",
+    RefusalNumber.STRESSED_ASSETS: "the assets under stress (VAF') are below 0 or over the most",
+    RefusalNumber.BUFFER_SHORT: "too few bytes were lent",
+    RefusalNumber.SPECIALIST_ENTRY: "an asset is a retrocession (entry class 3) in a book that is no specialist fund's",
+    RefusalNumber.MANY_MITIGANTS: "an asset of a book to be converted has more than 255 mitigants",
+    RefusalNumber.COST_RATE: "the cost rate is over 1,000 ten-thousandths",
+    RefusalNumber.QUESTIONS: "a question's counterparty is not in the book, its kind can't be bought, or there are over 200",
+    RefusalNumber.ANSWERS_SHORT: "too few bytes were lent for the answers",
 }
 
 # The file of a folder of CSV that a refusal speaks of; row and record are those of the place.
 FILES = {
-    Number.BOOK_MARK: "fund.csv",
-    Number.BOOK_VERSION: "fund.csv",
-    Number.BOOK_AMOUNTS: "fund.csv",
-    Number.COUNTERPARTY: "counterparties.csv",
-    Number.ASSET: "assets.csv",
-    Number.MITIGANT: "mitigants.csv",
-    Number.REINSURANCE_VALUES: "fund.csv",
-    Number.STRESSED_ASSETS: "fund.csv",
-    Number.SPECIALIST_ENTRY: "assets.csv",
-    Number.MANY_MITIGANTS: "assets.csv",
+    RefusalNumber.BOOK_MARK: "fund.csv",
+    RefusalNumber.BOOK_VERSION: "fund.csv",
+    RefusalNumber.BOOK_AMOUNTS: "fund.csv",
+    RefusalNumber.COUNTERPARTY: "counterparties.csv",
+    RefusalNumber.ASSET: "assets.csv",
+    RefusalNumber.MITIGANT: "mitigants.csv",
+    RefusalNumber.REINSURANCE_VALUES: "fund.csv",
+    RefusalNumber.STRESSED_ASSETS: "fund.csv",
+    RefusalNumber.SPECIALIST_ENTRY: "assets.csv",
+    RefusalNumber.MANY_MITIGANTS: "assets.csv",
 }
 
 
@@ -85,11 +85,11 @@ class Refusal(Exception):
 
     @property
     def name(self) -> str:
-        return Number(self.number).name
+        return RefusalNumber(self.number).name
 
     @property
     def meaning(self) -> str:
-        return MEANINGS[Number(self.number)]
+        return MEANINGS[RefusalNumber(self.number)]
 
     @property
     def where(self) -> str:

@@ -12,7 +12,7 @@ import books
 from books import M
 
 from weightrose import (
-    Asset, Book, Counterparty, Fund, Mitigant, Number, Refusal, ScheduleRow, bills, convert, headroom, inquiry, library,
+    Asset, Book, Counterparty, Fund, Mitigant, RefusalNumber, Refusal, ScheduleRow, bills, convert, headroom, inquiry, library,
     published, read_folder, read_schedule, report, schedule_text, version, write_folder,
 )  # fmt: skip
 
@@ -93,7 +93,7 @@ class Entries(unittest.TestCase):
             self.assertEqual(
                 (refusal.number, refusal.place, refusal.file, refusal.row), (number, place, file, row), str(refusal)
             )
-            self.assertEqual(refusal.name, Number(number).name)
+            self.assertEqual(refusal.name, RefusalNumber(number).name)
             self.assertIn(f"refused {number} {place} {refusal.name}: ", str(refusal))
             seen.add(number)
         self.assertEqual(seen, set(range(1, 22)))

@@ -6,7 +6,7 @@ import re
 import unittest
 
 import books
-from weightrose import Number, Tier, Version, library, version
+from weightrose import RefusalNumber, Tier, Version, library, version
 from weightrose.library import VERSION
 
 HEADER = (books.ROOT / "include" / "weightrose.h").read_text(encoding="utf-8")
@@ -43,7 +43,7 @@ class Versions(unittest.TestCase):
     def test_the_refusals(self) -> None:
         names = enumerated("refusal", "")
         self.assertEqual(names.pop("ACCEPTED"), 0)
-        self.assertEqual(names, {number.name: int(number) for number in Number})
+        self.assertEqual(names, {number.name: int(number) for number in RefusalNumber})
 
     def test_the_tiers(self) -> None:
         self.assertEqual(enumerated("tier", "TIER_"), {tier.name: int(tier) for tier in Tier})

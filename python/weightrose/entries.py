@@ -12,7 +12,7 @@ from typing import List, Optional, Sequence, Tuple, Union
 
 from weightrose import library
 from weightrose.records import Book, Malformed, Report, Schedule
-from weightrose.refusals import FILES, Number, Refusal
+from weightrose.refusals import FILES, Refusal, RefusalNumber
 
 BookLike = Union[Book, bytes]
 ScheduleLike = Union[Schedule, bytes, None]
@@ -29,20 +29,20 @@ def schedule_bytes(schedule: ScheduleLike) -> bytes:
     return schedule.to_bytes() if isinstance(schedule, Schedule) else schedule
 
 
-def _record_row(book: Book, number: Number, place: int) -> int:
+def _record_row(book: Book, number: RefusalNumber, place: int) -> int:
     """The row of CSV that a record came from, or would be written to."""
-    if number in (Number.ASSET, Number.SPECIALIST_ENTRY, Number.MANY_MITIGANTS):
+    if number in (RefusalNumber.ASSET, RefusalNumber.SPECIALIST_ENTRY, RefusalNumber.MANY_MITIGANTS):
         return book.assets[place - 1].row or place + 1
-    if number is Number.COUNTERPARTY:
+    if number is RefusalNumber.COUNTERPARTY:
         return book.counterparties[place - 1].row or place + 1
-    if number is Number.MITIGANT:
+    if number is RefusalNumber.MITIGANT:
         return book.mitigants[place - 1].row or place + 1
     return book.fund.row or 2
 
 
 def located(refusal: Refusal, book: BookLike) -> Refusal:
     """The refusal with the file and row that it speaks of."""
-    number = Number(refusal.number)
+    number = RefusalNumber(refusal.number)
     file = FILES.get(number)
     if file is None:
         return Refusal(refusal.number, refusal.place)
