@@ -4,6 +4,7 @@ from __future__ import annotations
 
 import csv
 import io
+import random
 import tempfile
 import unittest
 from dataclasses import replace
@@ -329,6 +330,28 @@ class DamagedFolders(Folders):
         self.write()
         self.edit("mitigants.csv", lambda rows: rows.extend([rows[1]] * 255))
         self.assertEqual(self.problems(), [("assets.csv", 6, "name")])
+
+    def test_bytes_exchanged_at_random(self) -> None:
+        """Whatever stands in the files, a folder is a book that has bytes, or it is damaged."""
+        choose = random.Random(19)
+        taken = 0
+        for _ in range(400):
+            self.write()
+            path = self.folder / choose.choice(("fund.csv", "counterparties.csv", "assets.csv", "mitigants.csv"))
+            data = bytearray(path.read_bytes())
+            for _ in range(choose.choice((1, 1, 3, 40))):
+                at = choose.randrange(len(data))
+                data[at : at + choose.randrange(2)] = choose.choice(
+                    (b"", b",", b'"', b"\n", b"\r", b"0", b"#", b"-", b"\xff", b"\0")
+                )
+            path.write_bytes(bytes(data))
+            try:
+                read_folder(self.folder).to_bytes()
+                taken += 1
+            except Damaged as damaged:
+                self.assertTrue(damaged.problems)
+                self.assertTrue(all(problem.file == path.name or problem.row for problem in damaged.problems))
+        self.assertTrue(20 < taken < 380, taken)
 
     def test_a_zero_byte(self) -> None:
         self.write()

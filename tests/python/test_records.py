@@ -2,6 +2,7 @@
 
 from __future__ import annotations
 
+import random
 import unittest
 
 import books
@@ -118,6 +119,21 @@ class NoRecords(unittest.TestCase):
                 Book.from_bytes(data)
         with self.assertRaises(Malformed):
             Schedule.from_bytes(bytes(122))
+
+    def test_bytes_exchanged_at_random(self) -> None:
+        """Bytes are records that give the same bytes again, or malformed."""
+        choose = random.Random(19)
+        taken = 0
+        for seed in range(400):
+            data = bytearray(books.accepted(seed).to_bytes())
+            for _ in range(choose.choice((1, 3))):
+                data[choose.choice((choose.randrange(16), choose.randrange(len(data))))] = choose.randrange(256)
+            try:
+                self.assertEqual(Book.from_bytes(bytes(data)).to_bytes(), bytes(data))
+                taken += 1
+            except Malformed:
+                pass
+        self.assertTrue(20 < taken < 380, taken)
 
     def test_counts_that_do_not_add_up(self) -> None:
         book = Book(Fund(1, 1), (Counterparty(),), (Asset(4, 1, 1, mitigants=(Mitigant(1, 1, 1),)),))
