@@ -1,7 +1,7 @@
 #!/bin/sh
 # Installs into a temporary prefix, builds the C ledger against what was installed and nothing
-# else, once with the archive and once with the shared library, runs both, and sees that
-# uninstalling leaves no file.
+# else, once with the archive and once with the shared library, runs both, the second also with a
+# shared library of another version, and sees that uninstalling leaves no file.
 #
 #     tests/install.sh MAKEFILE LIBRARY      from the repository's root
 set -eu
@@ -48,7 +48,19 @@ LD_LIBRARY_PATH="$prefix/lib" "$prefix/ledger-shared" >"$prefix/ledger-shared.ou
 cmp "$prefix/ledger.out" "$prefix/ledger-shared.out"
 readelf -d "$prefix/ledger" | grep -q weightrose && fail "the ledger of the archive needs the shared library"
 readelf -d "$prefix/ledger-shared" | grep -q 'libweightrose\.so\.0' || fail "the shared library is not needed by its soname"
-rm "$prefix/ledger" "$prefix/ledger-shared" "$prefix/ledger.out" "$prefix/ledger-shared.out" "$prefix/ledger.c"
+
+# The same entries under another version, as after a rollback: the ledger says so at its start.
+mkdir "$prefix/other"
+objcopy --redefine-sym weightrose_version=its_version "$prefix/lib/libweightrose.a" "$prefix/other/its.a"
+printf 'unsigned long long weightrose_version(void);\nunsigned long long weightrose_version(void) { return 0x6000600000900; }\n' \
+    >"$prefix/other/version.c"
+${CC:-cc} -shared -fPIC "$prefix/other/version.c" -Wl,--whole-archive "$prefix/other/its.a" -Wl,--no-whole-archive \
+    -o "$prefix/other/libweightrose.so.0"
+if LD_LIBRARY_PATH="$prefix/other" "$prefix/ledger-shared" >/dev/null 2>"$prefix/other/said"; then
+    fail "the ledger takes another library for its own"
+fi
+grep -q 'do not belong together' "$prefix/other/said" || fail "the ledger does not say that the library is another"
+rm -r "$prefix/other" "$prefix/ledger" "$prefix/ledger-shared" "$prefix/ledger.out" "$prefix/ledger-shared.out" "$prefix/ledger.c"
 
 run_make uninstall
 left=$(find "$prefix" ! -type d)

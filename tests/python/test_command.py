@@ -5,6 +5,7 @@ from __future__ import annotations
 import json
 import os
 import re
+import shutil
 import subprocess
 import sys
 import tempfile
@@ -304,18 +305,31 @@ class Usage(Commands):
         self.run_command("template", "mybook", "--force")
         self.assertEqual(changed.read_text(), (books.TEMPLATE / "fund.csv").read_text())
 
-    def test_another_library(self) -> None:
-        """A library that is not this package's is told at the start."""
-        for named, said in (
-            ("/nowhere/libweightrose.so", "no shared library"),
-            ("libc.so.6", "has no weightrose_version"),
-        ):
-            done = subprocess.run(
-                [sys.executable, "-m", "weightrose", "report", "mybook"], cwd=self.place, capture_output=True, check=False,
-                env={**os.environ, "WEIGHTROSE_LIBRARY": named},
-            )  # fmt: skip
-            self.assertEqual(done.returncode, 2)
-            self.assertIn(said, done.stderr.decode())
+    def ended_with(self, named: str) -> str:
+        """What is said with another library, which is told at the start and is bad usage."""
+        done = subprocess.run(
+            [sys.executable, "-m", "weightrose", "report", "mybook"],
+            cwd=self.place,
+            capture_output=True,
+            check=False,
+            env={**os.environ, "WEIGHTROSE_LIBRARY": named},
+        )
+        self.assertEqual((done.returncode, done.stdout), (2, b""))
+        return done.stderr.decode()
+
+    def test_no_library(self) -> None:
+        self.assertIn("no shared library", self.ended_with("/nowhere/libweightrose.so"))
+        self.assertIn("has no weightrose_version", self.ended_with("libc.so.6"))
+
+    @unittest.skipUnless(shutil.which("cc"), "there is no C compiler")
+    def test_a_library_of_another_version(self) -> None:
+        names = re.findall(r"^\t\t(weightrose_\w+);$", (books.ROOT / "tests/exports.map").read_text(), re.M)
+        self.assertEqual(len(names), 6)
+        source = "".join(f"unsigned long long {name}(void) {{ return 0x6000600000900; }}\n" for name in names)
+        (self.place / "other.c").write_text(source)
+        subprocess.run(["cc", "-shared", "-fPIC", "other.c", "-o", "other.so"], cwd=self.place, check=True)
+        said = self.ended_with(str(self.place / "other.so"))
+        self.assertIn(f"is of version 0.9.0, this package of {'.'.join(map(str, VERSION))}", said)
 
     def test_a_reader_that_stops(self) -> None:
         done = subprocess.run(
