@@ -15,7 +15,7 @@ from pathlib import Path
 from typing import List, NamedTuple
 
 import books
-from weightrose import Book, library, read_folder, write_folder
+from weightrose import Book, library, read_folder, words, write_folder
 from weightrose.library import VERSION
 
 EXPECTED = Path(__file__).with_name("expected")
@@ -72,6 +72,17 @@ class WordForWord(Commands):
         self.assertIn((EXPECTED / "report.txt").read_text(encoding="utf-8"), readme)
         for name in re.findall(r"^    ([a-z]+) ", self.run_command("--help").out.decode(), re.M):
             self.assertIn(f"`weightrose {name}", readme)
+
+    def test_the_words_in_the_readme(self) -> None:
+        """They are all there, with their numbers, and no other."""
+        kinds = (words.CounterpartyKind, words.AssetKind, words.EntryClass, words.Form)
+        flags = (words.CounterpartyFlag, words.AssetFlag, words.MitigantFlag)
+        every = [item for kind in kinds for item in words.words(kind).items()]
+        every += [item for flag in flags for item in words.flag_words(flag).items()]
+        readme = (books.ROOT / "README.md").read_text(encoding="utf-8")
+        table = readme.partition("| Column | Words")[2].partition("\n\n")[0]
+        listed = [(word, int(number)) for word, number in re.findall(r"`([a-z0-9 -]+)` \((\d+)\)", table)]
+        self.assertEqual(sorted(listed), sorted(every))
 
     def test_bills(self) -> None:
         self.check("bills.txt", "bills", "mybook", "--rate", "4.5%")
