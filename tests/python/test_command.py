@@ -15,6 +15,7 @@ from pathlib import Path
 from typing import List, NamedTuple
 
 import books
+import shown
 from weightrose import Book, library, read_folder, words, write_folder
 from weightrose.library import VERSION
 
@@ -343,15 +344,12 @@ class Usage(Commands):
         self.assertIn(f"is of version 0.9.0, this package of {'.'.join(map(str, VERSION))}", said)
 
     def test_a_reader_that_stops(self) -> None:
-        done = subprocess.run(
-            f"{sys.executable} -m weightrose report mybook | head -n 1",
-            cwd=self.place,
-            shell=True,
-            capture_output=True,
-            check=False,
-        )
-        self.assertEqual(done.stderr, b"")
-        self.assertTrue(done.stdout.startswith(b"Group"))
+        """As 'head' does, with more to come than a pipe holds."""
+        write_folder(shown.maximal(), self.place / "large")
+        self.assertGreater(len(self.run_command("report", "large", "--json").out), 100_000)
+        command = f"{sys.executable} -m weightrose report large --json | head -n 1"
+        done = subprocess.run(command, cwd=self.place, shell=True, capture_output=True, check=False)
+        self.assertEqual((done.stdout, done.stderr), (b"{\n", b""))
 
 
 if __name__ == "__main__":
