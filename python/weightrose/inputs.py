@@ -164,11 +164,17 @@ def places(book: Book) -> Dict[str, int]:
     return found
 
 
+def _to_standard_output(data: bytes) -> None:
+    """All of it: a stream that PYTHONUNBUFFERED has made bare may write a part and say so to nobody."""
+    with open(sys.stdout.fileno(), "wb", closefd=False) as out:
+        out.write(data)
+
+
 def write_data(data: bytes, path: Optional[str]) -> None:
     if path is None:
         if sys.stdout.isatty():
             raise Usage("bytes are not written to a terminal: use -o FILE")
-        sys.stdout.buffer.write(data)
+        _to_standard_output(data)
         return
     try:
         Path(path).write_bytes(data)
@@ -179,7 +185,7 @@ def write_data(data: bytes, path: Optional[str]) -> None:
 def write_text(text: str, path: Optional[str]) -> None:
     """UTF-8, whatever the terminal's settings."""
     if path is None:
-        sys.stdout.buffer.write(text.encode())
+        _to_standard_output(text.encode())
     else:
         write_data(text.encode(), path)
 
