@@ -166,8 +166,11 @@ def places(book: Book) -> Dict[str, int]:
 
 def _to_standard_output(data: bytes) -> None:
     """All of it: a stream that PYTHONUNBUFFERED has made bare may write a part and say so to nobody."""
-    with open(sys.stdout.fileno(), "wb", closefd=False) as out:
-        out.write(data)
+    try:
+        with open(sys.stdout.fileno(), "wb", closefd=False) as out:
+            out.write(data)
+    except OSError as error:
+        raise Usage(f"standard output: {error.strerror}") from None
 
 
 def write_data(data: bytes, path: Optional[str]) -> None:

@@ -343,6 +343,17 @@ class Usage(Commands):
         said = self.ended_with(str(self.place / "other.so"))
         self.assertIn(f"is of version 0.9.0, this package of {'.'.join(map(str, VERSION))}", said)
 
+    @unittest.skipUnless(Path("/dev/full").exists(), "there is no device that is always full")
+    def test_a_disk_that_is_full(self) -> None:
+        command = [sys.executable, "-m", "weightrose", "report", "mybook"]
+        for arguments, said in ((["-o", "/dev/full"], "/dev/full: No space"), ([], "standard output: No space")):
+            with open("/dev/full", "wb") as full:
+                done = subprocess.run(
+                    [*command, *arguments], cwd=self.place, stdout=full, stderr=subprocess.PIPE, check=False
+                )
+            self.assertEqual(done.returncode, 2)
+            self.assertTrue(done.stderr.decode().startswith(f"weightrose: {said}"), done.stderr)
+
     def test_a_reader_that_stops(self) -> None:
         """As 'head' does, with more to come than a pipe holds."""
         write_folder(shown.maximal(), self.place / "large")
