@@ -38,11 +38,15 @@ def tier_letters(number: int) -> str:
 
 def printable(text: str) -> str:
     """A user's text on one line, and without what a terminal would take for a command."""
+    if text.isprintable():
+        return text
     return "".join(character if character.isprintable() else " " for character in text)
 
 
 def _width(text: str) -> int:
     """The columns of a terminal that a text takes: two for a wide character, none for an accent by itself."""
+    if text.isascii():
+        return len(text)
     wide = sum(unicodedata.east_asian_width(character) in "WF" for character in text)
     return len(text) + wide - sum(unicodedata.combining(character) != 0 for character in text)
 
