@@ -117,16 +117,16 @@ class Row:
         return self.number(column, most, default)
 
     def flags(self, column: str, flags: Type[enum.IntFlag]) -> int:
-        """The words of flags with spaces between them, or their bits as one number."""
+        """The words of flags with spaces or commas between them, or their bits as one number."""
         known = flag_words(flags)
         text = self.text(column)
         if _WHOLE.fullmatch(text):
             return self.number(column, 255)
         bits = 0
-        for found in text.lower().replace("_", "-").split():
+        for found in re.split(r"[\s,;]+", text.lower().replace("_", "-")):
             if found in known:
                 bits |= known[found]
-            else:
+            elif found:
                 self.wrong(column, f"{found!r} is none of: {', '.join(known)}")
         return bits
 

@@ -12,11 +12,22 @@ from typing import Callable, List, Optional, Sequence, Tuple
 
 from weightrose import __version__, entries, folder, inquiry, library, page, rates, tables
 from weightrose.cells import Damaged
-
 from weightrose.inputs import (
-    Asked, BookInput, ScheduleInput, TurnedBack, Usage, answered, places, read_book, read_data, read_questions,
-    read_schedule, write_data, write_tables, write_text,
-)  # fmt: skip
+    Asked,
+    BookInput,
+    ScheduleInput,
+    TurnedBack,
+    Usage,
+    answered,
+    places,
+    read_book,
+    read_data,
+    read_questions,
+    read_schedule,
+    write_data,
+    write_tables,
+    write_text,
+)
 from weightrose.library import LibraryError
 from weightrose.records import Book, Malformed, Report, Schedule
 from weightrose.refusals import Refusal

@@ -12,11 +12,20 @@ from typing import Any, Callable, Dict, List, Optional, Sequence, Tuple, Union
 
 from weightrose import library
 from weightrose.entries import Question, located, question_bytes
-
 from weightrose.records import (
-    ASSET_SIZE, COUNTERPARTY, FUND, MITIGANT, ROW_NAMES,
-    Asset, Book, Counterparty, Fund, Mitigant, Schedule, ScheduleRow,
-)  # fmt: skip
+    ASSET_SIZE,
+    COUNTERPARTY,
+    FUND,
+    MITIGANT,
+    ROW_NAMES,
+    Asset,
+    Book,
+    Counterparty,
+    Fund,
+    Mitigant,
+    Schedule,
+    ScheduleRow,
+)
 from weightrose.refusals import Refusal, RefusalNumber
 from weightrose.words import AssetKind, Form
 

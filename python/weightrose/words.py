@@ -72,8 +72,12 @@ class MitigantFlag(enum.IntFlag):
 
 
 class YesNo(enum.IntEnum):
+    """Spreadsheets have FALSE and TRUE."""
+
     NO = 0
     YES = 1
+    FALSE = 0
+    TRUE = 1
 
 
 class Tier(enum.IntEnum):
@@ -111,11 +115,11 @@ def plain(text: str) -> str:
 
 @lru_cache(maxsize=None)
 def words(numbers: Type[enum.IntEnum]) -> Dict[str, int]:
-    return {plain(member.name): int(member) for member in numbers}
+    return {plain(name): int(member) for name, member in numbers.__members__.items()}
 
 
 def word(numbers: Type[enum.IntEnum], number: int) -> str:
-    """The word for a number, or the number where there is none."""
+    """The first word for a number, or the number where there is none."""
     for text, value in words(numbers).items():
         if value == number:
             return text

@@ -7,8 +7,17 @@ from dataclasses import replace
 from typing import List, Tuple
 
 from weightrose import (
-    Asset, AssetKind, Book, Counterparty, CounterpartyKind, EntryClass, Form, Fund, Mitigant, MitigantFlag,
-)  # fmt: skip
+    Asset,
+    AssetKind,
+    Book,
+    Counterparty,
+    CounterpartyKind,
+    EntryClass,
+    Form,
+    Fund,
+    Mitigant,
+    MitigantFlag,
+)
 
 MILLION = 10**8
 SCRIPT_NAME = "<script>alert('x')</script> & \"Sons\" Pty Ltd"

@@ -13,11 +13,22 @@ from typing import Callable, Dict, List, Tuple
 
 import books
 import shown
-
 from weightrose import (
-    Asset, AssetKind, Book, Counterparty, CounterpartyKind, Damaged, EntryClass, Form, Fund, published,
-    read_folder, read_schedule, schedule_text, write_folder,
-)  # fmt: skip
+    Asset,
+    AssetKind,
+    Book,
+    Counterparty,
+    CounterpartyKind,
+    Damaged,
+    EntryClass,
+    Form,
+    Fund,
+    published,
+    read_folder,
+    read_schedule,
+    schedule_text,
+    write_folder,
+)
 from weightrose.cells import cents, dollars
 from weightrose.folder import tables_of
 from weightrose.words import flag_words, plain, words
@@ -36,7 +47,7 @@ class Folders(unittest.TestCase):
         for name, text in tables.items():
             (self.folder / f"{name}.csv").write_text(text, encoding="utf-8")
 
-    def edit(self, file: str, change: Callable[[List[List[str]]], None]) -> None:
+    def edit(self, file: str, change: Callable[[List[List[str]]], object]) -> None:
         path = self.folder / file
         rows = list(csv.reader(io.StringIO(path.read_text(encoding="utf-8"), newline="")))
         change(rows)
@@ -150,6 +161,20 @@ class Cells(Folders):
         self.edit("assets.csv", shout)
         self.edit("assets.csv", lambda rows: rows.__setitem__(0, [name.upper().replace("_", " ") for name in rows[0]]))
         self.assertEqual(read_folder(self.folder).to_bytes(), expected)
+
+    def test_several_flags(self) -> None:
+        self.write()
+        expected = read_folder(self.folder).to_bytes()
+        for apart in (", ", ";", "  ", ","):
+            self.write()
+            self.edit("mitigants.csv", lambda rows: [row.__setitem__(3, row[3].replace(" ", apart)) for row in rows])
+            self.assertEqual(read_folder(self.folder).to_bytes(), expected)
+
+    def test_yes_and_no(self) -> None:
+        for text, number in (("yes", 1), ("TRUE", 1), ("1", 1), ("No", 0), ("false", 0), ("", 0), ("2", 2)):
+            self.write()
+            self.edit("fund.csv", lambda rows: rows[1].__setitem__(2, text))
+            self.assertEqual(read_folder(self.folder).fund.specialist, number)
 
     def test_amounts_in_cents(self) -> None:
         self.write()

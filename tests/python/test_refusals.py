@@ -12,9 +12,27 @@ import books
 from books import M
 
 from weightrose import (
-    Asset, Book, Counterparty, Fund, Mitigant, RefusalNumber, Refusal, ScheduleRow, bills, convert, headroom, inquiry, library,
-    published, read_folder, read_schedule, report, schedule_text, version, write_folder,
-)  # fmt: skip
+    Asset,
+    Book,
+    Counterparty,
+    Fund,
+    Mitigant,
+    RefusalNumber,
+    Refusal,
+    ScheduleRow,
+    bills,
+    convert,
+    headroom,
+    inquiry,
+    library,
+    published,
+    read_folder,
+    read_schedule,
+    report,
+    schedule_text,
+    version,
+    write_folder,
+)
 
 
 def refusal_of(call: Callable[[], object]) -> Refusal:
