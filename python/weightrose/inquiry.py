@@ -81,7 +81,7 @@ class Finding:
 @dataclass(frozen=True)
 class _Slot:
     """A record of a book: where it stands in its list and its bytes in the book, the columns to put
-    back, and a record without substance."""
+    back, a record without substance, and such ones of other kinds."""
 
     records: List[Any]
     index: int
@@ -89,6 +89,7 @@ class _Slot:
     columns: Tuple[str, ...]
     empty: Any
     pack: Callable[[Any], bytes]
+    others: Tuple[Any, ...] = ()
 
     @property
     def record(self) -> Any:
@@ -106,6 +107,8 @@ class _Probe:
         self._counterparties = list(book.counterparties)
         self._assets = list(book.assets)
         self._mitigants = list(book.mitigants)
+        # What served for one mistyped kind is tried first for the next.
+        self._last_kind: int = AssetKind.REINSURANCE
 
     def answer(self) -> Optional[Refusal]:
         return _refusal(self._ask, bytes(self._data))
@@ -125,8 +128,10 @@ class _Probe:
         if number in (RefusalNumber.ASSET, RefusalNumber.SPECIALIST_ENTRY):
             own = self._assets[index]
             bare = Asset(AssetKind.OTHER, 1, 0, desk=own.desk, mitigants=own.mitigants)
+            others = tuple(replace(bare, kind=kind) for kind in AssetKind if kind != AssetKind.OTHER)
             at = assets_at + ASSET_SIZE * index
-            return _Slot(self._assets, index, at, _ASSET_COLUMNS, bare, lambda a: Asset.to_bytes(a, self._version))
+            pack = lambda a: Asset.to_bytes(a, self._version)  # noqa: E731
+            return _Slot(self._assets, index, at, _ASSET_COLUMNS, bare, pack, others)
         if number is RefusalNumber.MITIGANT:
             at = assets_at + ASSET_SIZE * len(self._assets) + MITIGANT.size * index
             return _Slot(self._mitigants, index, at, _MITIGANT_COLUMNS, Mitigant(Form.CASH, 1, 0), Mitigant.to_bytes)
@@ -143,13 +148,14 @@ class _Probe:
         found = None if refusal is None else self.slot(refusal)
         return refusal if found is not None and found.at == slot.at else None
 
-    def columns(self, slot: _Slot) -> Dict[Tuple[int, int], List[str]]:
-        """The columns that are refused when put back, by refusal; the record stays without them."""
-        record, kept = slot.record, slot.empty
-        self.put(slot, kept)
+    def put_back(self, slot: _Slot, record: Any, empty: Any) -> Tuple[Dict[Tuple[int, int], List[str]], Any]:
+        """The columns of a record that are refused when put into an empty one, by refusal, and the
+        record without them. Nothing is found where even the empty one is refused."""
         found: Dict[Tuple[int, int], List[str]] = {}
+        self.put(slot, empty)
         if self.about(slot):
-            return found
+            return found, empty
+        kept = empty
         for column in slot.columns:
             tried = replace(kept, **{column: getattr(record, column)})
             self.put(slot, tried)
@@ -158,8 +164,27 @@ class _Probe:
                 kept = tried
             else:
                 found.setdefault((refusal.number, refusal.place), []).append(column)
-        self.put(slot, kept)
-        return found
+        return found, kept
+
+    def columns(self, slot: _Slot) -> Dict[Tuple[int, int], List[str]]:
+        """The columns that are refused; the record stays without them. Where the kind is one of them,
+        the others are judged beside the kind that leaves the fewest: what a mistyped kind would allow
+        if it were right is not at fault."""
+        record = slot.record
+        best = self.put_back(slot, record, slot.empty)
+        if any("kind" in columns for columns in best[0].values()):
+            for other in sorted(slot.others, key=lambda one: bool(one.kind != self._last_kind)):
+                tried = self.put_back(slot, record, other)
+                if 0 < _told(tried[0]) < _told(best[0]):
+                    best, self._last_kind = tried, other.kind
+                if _told(best[0]) == 1:
+                    break
+        self.put(slot, best[1])
+        return best[0]
+
+
+def _told(found: Dict[Tuple[int, int], List[str]]) -> int:
+    return sum(map(len, found.values()))
 
 
 def _refusal(ask: Ask, data: bytes) -> Optional[Refusal]:

@@ -176,6 +176,15 @@ class Rows(unittest.TestCase):
         ):  # fmt: skip
             self.check(asset_refused(**changes), (11, f"assets.csv row 4 column {column}"))
 
+    def test_a_mistyped_kind_is_at_fault_alone(self) -> None:
+        """Not the columns that the right kind would allow; but those that no kind would."""
+        treaty = Asset(12, 1, 100, "Third", 2, 1, 3, insurance_stress=90, combination_stress=100)
+        self.check(books.with_asset(GOOD, replace(treaty, kind=9)))
+        self.check(books.with_asset(GOOD, treaty), (11, "assets.csv row 4 column kind"))
+        self.check(books.with_asset(GOOD, replace(treaty, offsets=101)), (11, "assets.csv row 4 columns kind, offsets"))
+        worse = replace(treaty, deductions=M + 1, counterparty=7)
+        self.check(books.with_asset(GOOD, worse), (11, "assets.csv row 4 columns kind, counterparty, deductions"))
+
     def test_counterparties_and_mitigants(self) -> None:
         for changes, column in (
             ({"kind": 5}, "kind"),
