@@ -20,18 +20,18 @@ fn counts_fit(b: &[u8]) -> bool
     requires { ⌜ headerSize ≤ length (now b) ⌝ }
     ensures { λ r. ⌜ r ≡ countsFit (now (b .entry)) ⌝ }
 {
-    let h = book::header_at(b);
+    let h = header::header_at(b);
     (h.counterparties as usize <= book::MOST_COUNTERPARTIES)
         & (h.assets as usize <= book::MOST_ASSETS)
         & (h.mitigants as usize <= book::MOST_MITIGANTS)
-        & (b.len() == book::size(h))
+        & (b.len() == header::size(h))
 }
 
 fn amounts_fit(b: &[u8]) -> bool
     requires { ⌜ headerSize ≤ length (now b) ⌝ }
     ensures { λ r. ⌜ r ≡ amountsFit (now (b .entry)) ⌝ }
 {
-    let h = book::header_at(b);
+    let h = header::header_at(b);
     (h.total <= wire::M) & (h.excluded <= wire::M) & (LEAST_BASE <= h.base) & (h.base <= MOST_BASE)
 }
 
@@ -39,8 +39,8 @@ fn header_check(b: &[u8]) -> Checked
     requires { ⌜ headerSize ≤ length (now b) ⌝ }
     ensures { λ r. ⌜ r ≡ headerCheck (now (b .entry)) ⌝ }
 {
-    let mark = refusal::unless(Refusal::BookMark, book::marked(b));
-    let version = refusal::unless(Refusal::BookVersion, book::version_known(b));
+    let mark = refusal::unless(Refusal::BookMark, header::marked(b));
+    let version = refusal::unless(Refusal::BookVersion, header::version_known(b));
     let counts = refusal::unless(Refusal::BookCounts, counts_fit(b));
     let amounts = refusal::unless(Refusal::BookAmounts, amounts_fit(b));
     refusal::and_then(
@@ -115,14 +115,14 @@ fn records_check(b: &[u8]) -> Checked
     requires { ⌜ HeaderFits (now b) ⌝ }
     ensures { λ r. ⌜ r ≡ recordsCheck (now (b .entry)) ⌝ }
 {
-    let h = book::header_at(b);
+    let h = header::header_at(b);
     let c = h.counterparties;
     let n = h.assets as usize;
     let k = h.mitigants as usize;
-    let section = book::assets_of(b);
+    let section = header::assets_of(b);
     let counterparties = counterparties_check(b, c as usize);
     let assets = assets_check(b, c, n, section);
-    let mitigants = mitigants_check(b, c, k, book::mitigants_start(h));
+    let mitigants = mitigants_check(b, c, k, header::mitigants_start(h));
     let counts = refusal::unless(Refusal::MitigantCounts, counts_add(b, n, section) == k);
     refusal::and_then(
         counterparties,
@@ -160,9 +160,14 @@ pub fn check(b: &[u8]) -> Checked
     match header {
         Checked::Bad(why) => Checked::Bad(why),
         Checked::Fine => {
-            let h = book::header_at(b);
+            let h = header::header_at(b);
             let records = records_check(b);
-            let entries = specialist_check(b, h.specialist, h.assets as usize, book::assets_of(b));
+            let entries = specialist_check(
+                b,
+                h.specialist,
+                h.assets as usize,
+                header::assets_of(b),
+            );
             refusal::and_then(records, entries)
         }
     }

@@ -29,13 +29,13 @@ fn excesses(
     let limits = f.limits;
     let ranking = f.ranking;
     let figures = f.figures;
-    let h = book::header_at(book);
+    let h = header::header_at(book);
     let n = h.assets as usize;
-    let first = book::assets_of(book);
-    let behind = book::mitigants_start(h);
+    let first = header::assets_of(book);
+    let behind = header::mitigants_start(h);
     desks[0] = choice::less(figures.a3_sum, figures.a3_limit);
     standing::stand(cells, groups, limits, ranking);
-    desks::serve(
+    serving::serve(
         book,
         first,
         behind,

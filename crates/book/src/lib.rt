@@ -1,31 +1,24 @@
-// A book's records: their types, the records out of the bytes, and the questions that document 01 has words for.
+// A book's records: their types, the records out of the bytes, and the questions that document 01 has words for. The header's bytes are `header`'s.
 ghost use mathlib.Core.Path.{_≡_};
 ghost use Prim.Native.Nat.{_+_, _*_, _-_, _/_, _%_, _<_, _≤_};
 ghost use lib.ListN.{length};
-ghost use Rattle.words.specs.Words.{_=?_};
 ghost use Rattle.wire.specs.Bytes.{bit};
-ghost use Rattle.book.specs.Records.{headerSize, version, counterpartySize, assetSize, mitigantSize, assetsStart, mitigantsStart, counterpartyStart, kindOf, headerAt, countMask, assetsOf, counterpartyAt, assetFrom, assetAt, mitigantAt};
-ghost use Rattle.book.specs.Check.{bookMarked, versionKnown};
+ghost use Rattle.book.specs.Records.{headerSize, counterpartySize, assetSize, mitigantSize, assetsStart, mitigantsStart, counterpartyStart, kindOf, countMask, assetsOf, counterpartyAt, assetFrom, assetAt, mitigantAt};
 ghost use Rattle.book.specs.Fields.{kindNumber, graded, linked, rises, reinsurance};
 
-// The versions: in the second a count of mitigants has one byte, and the byte behind it is the desk.
-const FIRST: u16 = 1;
-
-pub const WITH_DESKS: u16 = 2;
-
 // What of an asset's bytes 6 and 7 is its count of mitigants in the first version, and in the second.
-const BOTH_BYTES: u16 = 65535;
+pub const BOTH_BYTES: u16 = 65535;
 
-const ONE_BYTE: u16 = 255;
+pub const ONE_BYTE: u16 = 255;
 
 // How many bytes the header and a record of each type have.
 pub const HEADER_SIZE: usize = 40;
 
-const COUNTERPARTY_SIZE: usize = 4;
+pub const COUNTERPARTY_SIZE: usize = 4;
 
-const ASSET_SIZE: usize = 48;
+pub const ASSET_SIZE: usize = 48;
 
-const MITIGANT_SIZE: usize = 12;
+pub const MITIGANT_SIZE: usize = 12;
 
 // The most records of each type.
 pub const MOST_COUNTERPARTIES: usize = 500;
@@ -78,8 +71,8 @@ pub struct Asset {
 
 // Where the assets stand: the first one's start, and the mask of an asset's bytes 6 and 7 that leaves its count of mitigants.
 pub struct Assets {
-    start: usize,
-    counts: u16,
+    pub start: usize,
+    pub counts: u16,
 }
 
 pub struct Mitigant {
@@ -116,58 +109,6 @@ fn kind_of(n: u8) -> Kind
     }
 }
 
-// "ACB" and a zero, 0 or 1, and the three zeros.
-pub fn marked(b: &[u8]) -> bool
-    requires { ⌜ headerSize ≤ length (now b) ⌝ }
-    ensures { λ r. ⌜ r ≡ bookMarked (now (b .entry)) ⌝ }
-{
-    (b[0] == b'A')
-        & (b[1] == b'C')
-        & (b[2] == b'B')
-        & (b[3] == 0)
-        & (b[12] <= 1)
-        & (b[13] == 0)
-        & (b[14] == 0)
-        & (b[15] == 0)
-}
-
-// Whether a book is of the first version, and whether of any.
-pub fn is_first(b: &[u8]) -> bool
-    requires { ⌜ headerSize ≤ length (now b) ⌝ }
-    ensures { λ r. ⌜ r ≡ (version (now (b .entry)) =? 1) ⌝ }
-{
-    wire::u16_at(b, 4) == FIRST
-}
-
-fn has_desks(b: &[u8]) -> bool
-    requires { ⌜ headerSize ≤ length (now b) ⌝ }
-    ensures { λ r. ⌜ r ≡ (version (now (b .entry)) =? 2) ⌝ }
-{
-    wire::u16_at(b, 4) == WITH_DESKS
-}
-
-pub fn version_known(b: &[u8]) -> bool
-    requires { ⌜ headerSize ≤ length (now b) ⌝ }
-    ensures { λ r. ⌜ r ≡ versionKnown (now (b .entry)) ⌝ }
-{
-    is_first(b) | has_desks(b)
-}
-
-pub fn header_at(b: &[u8]) -> Header
-    requires { ⌜ headerSize ≤ length (now b) ⌝ }
-    ensures { λ r. ⌜ r ≡ headerAt (now (b .entry)) ⌝ }
-{
-    Header {
-        counterparties: wire::u16_at(b, 6),
-        assets: wire::u16_at(b, 8),
-        mitigants: wire::u16_at(b, 10),
-        total: wire::u64_at(b, 16),
-        base: wire::i64_at(b, 24),
-        excluded: wire::u64_at(b, 32),
-        specialist: b[12] == 1,
-    }
-}
-
 // Where the counterparty of a place starts.
 pub fn counterparty_start(place: usize) -> usize
     requires { ⌜ (0 < place) × (place < 65536) ⌝ }
@@ -188,37 +129,6 @@ pub fn counterparty_at(b: &[u8], place: usize) -> Counterparty
         kind,
         grade: low_four(b[at + 2]),
         flags: b[at + 3],
-    }
-}
-
-// Where the assets start, where the mitigants, and how many bytes there are to the last of these.
-fn assets_start(h: Header) -> usize
-    ensures { λ r. ⌜ r ≡ headerSize + counterpartySize * h .counterparties ⌝ }
-{
-    HEADER_SIZE + COUNTERPARTY_SIZE * h.counterparties as usize
-}
-
-pub fn mitigants_start(h: Header) -> usize
-    ensures { λ r. ⌜ r ≡ headerSize + counterpartySize * h .counterparties + assetSize * h .assets ⌝ }
-{
-    assets_start(h) + ASSET_SIZE * h.assets as usize
-}
-
-pub fn size(h: Header) -> usize
-    ensures { λ r. ⌜ r ≡ headerSize + counterpartySize * h .counterparties + assetSize * h .assets + mitigantSize * h .mitigants ⌝ }
-{
-    mitigants_start(h) + MITIGANT_SIZE * h.mitigants as usize
-}
-
-// Where the assets stand, from which alone `asset_at` knows of versions. The caller keeps it: a loop then reads it once.
-pub fn assets_of(b: &[u8]) -> Assets
-    requires { ⌜ headerSize ≤ length (now b) ⌝ }
-    ensures { λ r. ⌜ r ≡ assetsOf (now (b .entry)) ⌝ }
-{
-    let h = header_at(b);
-    Assets {
-        start: assets_start(h),
-        counts: choice::short(has_desks(b), ONE_BYTE, BOTH_BYTES),
     }
 }
 

@@ -14,7 +14,7 @@ use Rattle.cascade.specs.Cut.{stands}
 use Rattle.figures.specs.Report.{charge}
 use Rattle.headroom.specs.Headroom.{withMore, leastOf, roomIn}
 use Rattle.report.specs.Answer.{fundIn, writtenBy}
-use Rattle.questions.specs.Questions.{answerSize, countOf, placeAt, kindAt, questionAt, goodQuestion, goodList}
+use Rattle.asking.specs.Questions.{answerSize, countOf, placeAt, kindAt, questionAt, goodQuestion, goodList}
 use Rattle.questions.specs.Headroom.{groupOf, tierFor, answerTo, answersOf, headroomCheck, headroomAnswer, answerIn}
 use Rattle.cases.specs.Build.{plain, reinsured, entered, usual, specialist, name, gradedName, bank}
 use Rattle.cases.specs.Reading.{amountsIn}

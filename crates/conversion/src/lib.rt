@@ -9,7 +9,7 @@ ghost use Rattle.book.specs.Accepted.{Accepted};
 ghost use Rattle.conversion.specs.Conversion.{converted, firstCheck, narrowCheck, Narrow};
 
 // The version of a converted book; its high byte is 0, as that of the first version is.
-const VERSION: u8 = book::WITH_DESKS as u8;
+const VERSION: u8 = header::WITH_DESKS as u8;
 
 // The most that a count of one byte can be.
 const MOST_COUNT: u16 = 255;
@@ -21,8 +21,8 @@ pub fn first_check(b: &[u8]) -> Checked
     if b.len() < book::HEADER_SIZE {
         return Checked::Bad(Refusal::BookLength);
     }
-    let mark = refusal::unless(Refusal::BookMark, book::marked(b));
-    let version = refusal::unless(Refusal::BookVersion, book::is_first(b));
+    let mark = refusal::unless(Refusal::BookMark, header::marked(b));
+    let version = refusal::unless(Refusal::BookVersion, header::is_first(b));
     refusal::and_then(mark, version)
 }
 
@@ -31,9 +31,9 @@ pub fn narrow_check(b: &[u8]) -> Checked
     requires { ⌜ Accepted (now b) ⌝ }
     ensures { λ r. ⌜ r ≡ narrowCheck (now (b .entry)) ⌝ }
 {
-    let h = book::header_at(b);
+    let h = header::header_at(b);
     let n = h.assets as usize;
-    let assets = book::assets_of(b);
+    let assets = header::assets_of(b);
     let mut passed = 0;
     while passed < n {
         let place = passed + 1;

@@ -29,7 +29,7 @@ use Rattle.fund.specs.Fund.{Exposed, RatedAs}
 use Rattle.report.specs.Answer.{fundIn}
 use Rattle.questions.specs.Tables.{startAt, exposuresAt, columnAt, answerAt, Answerable}
 use Rattle.questions.specs.Headroom.{asked, groupOf, tierFor, answerTo}
-use Rattle.questions.proofs.Listed.{InRange}
+use Rattle.asking.proofs.Listed.{InRange}
 
 -- the ranking that was made, by the fund's order
 abbrev pub ranked-by : {schedule b : List ℕ} {f : made.Fund} → RatedAs schedule b f → RankedBy (f .limits) (f .ranking)

@@ -13,7 +13,7 @@ use Rattle.book.specs.Records.{C}
 use Rattle.book.specs.Book.{bookOf}
 use Rattle.exposure.specs.Values.{fundCheck}
 use Rattle.fund.specs.Fund.{Passed}
-use Rattle.questions.specs.Questions.{answerSize, countOf, goodList}
+use Rattle.asking.specs.Questions.{answerSize, countOf, goodList}
 use Rattle.questions.specs.Headroom.{headroomCheck, headroomAnswer, Asked}
 
 module _ (schedule book questions : List ℕ) where

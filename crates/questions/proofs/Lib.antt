@@ -1,4 +1,3 @@
-pub mod Listed
 pub mod Chain
 mod Answering
 mod Written

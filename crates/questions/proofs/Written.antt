@@ -28,10 +28,10 @@ use Rattle.fund.specs.Fund.{Passed, Exposed, RatedAs}
 use Rattle.fund.specs.Figures.{order, fundOf}
 use Rattle.report.specs.Answer.{fundIn}
 use Rattle.report.proofs.Written.{ordered, report-charge}
-use Rattle.questions.specs.Questions.{answerSize, countOf, placeAt, kindAt, questionAt, goodList}
+use Rattle.asking.specs.Questions.{answerSize, countOf, placeAt, kindAt, questionAt, goodList}
 use Rattle.questions.specs.Tables.{answersAt}
 use Rattle.questions.specs.Headroom.{groupOf, tierFor, answerTo, answersOf, answerIn, AnswerRight, Asked}
-use Rattle.questions.proofs.Listed.{in-range, Listed, listed, single-place, single-kind, single-count, single-good}
+use Rattle.asking.proofs.Listed.{in-range, Listed, listed, single-place, single-kind, single-count, single-good}
 use Rattle.questions.proofs.Answering.{answer-is}
 use Rattle.questions.proofs.Chain.{fine}
 

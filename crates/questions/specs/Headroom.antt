@@ -27,7 +27,7 @@ use Rattle.exposure.specs.declared.Exposure.{Exposure}
 use Rattle.exposure.specs.Tier.{tierOf}
 use Rattle.exposure.specs.Values.{fundCheck}
 use Rattle.report.specs.Answer.{fundIn, reportOf, writtenBy}
-use Rattle.questions.specs.Questions.{answerSize, countOf, placeAt, kindAt, questionAt, goodList}
+use Rattle.asking.specs.Questions.{answerSize, countOf, placeAt, kindAt, questionAt, goodList}
 
 -- an exposure of that kind to that counterparty; its entry and months are 0, and its amount is what is asked for
 abbrev pub asked : ℕ → ℕ → Exposure

@@ -11,7 +11,7 @@ use Rattle.cascade.specs.Cascade.{tiers, byTier}
 use Rattle.rows.specs.Rows.{columns}
 use Rattle.headroom.specs.Headroom.{roomIn, rowFrom, RankedBy}
 use Rattle.columns.specs.Column.{tierIn, digit}
-use Rattle.questions.specs.Questions.{placeAt, kindAt}
+use Rattle.asking.specs.Questions.{placeAt, kindAt}
 
 -- where the row of a counterparty's group starts, and its exposures by tier
 abbrev pub startAt : List ℕ → ℕ → ℕ

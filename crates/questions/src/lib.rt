@@ -6,7 +6,6 @@ use refusal::Refusal;
 ghost use mathlib.Core.Path.{_≡_};
 ghost use Prim.Native.Nat.{ℕ, _*_, _≤_, _<_};
 ghost use lib.ListN.{length};
-ghost use Rattle.words.specs.Below.{allBelow};
 ghost use Rattle.wire.specs.Bytes.{placed};
 ghost use Rattle.wire.specs.Amounts.{amountsBytes};
 ghost use Rattle.refusal.specs.declared.Checked.the-variants.{Fine};
@@ -18,54 +17,12 @@ ghost use Rattle.columns.specs.Column.{Tiered};
 ghost use Rattle.parties.specs.Rows.{topsTo};
 ghost use Rattle.cells.specs.Cells.{Rowed};
 ghost use Rattle.fund.specs.Fund.{Passed, Exposed, RatedAs};
-ghost use Rattle.questions.specs.Questions.{questionSize, answerSize, mostQuestions, placeAt, kindAt, goodQuestion, goodList};
+ghost use Rattle.asking.specs.Questions.{questionSize, answerSize, mostQuestions, placeAt, kindAt};
 ghost use Rattle.questions.specs.Tables.{answerAt, answersAt, Answerable};
 ghost use Rattle.questions.specs.Headroom.{Asked};
 
-// The most questions of a list, the bytes of a question and those of an answer.
-const MOST: usize = 200;
-
-const QUESTION: usize = 3;
-
+// The bytes of an answer.
 const ANSWER: usize = 8;
-
-// Whether a place and a kind are in range, where there are c counterparties.
-fn good_question(place: u16, kind: u8, c: u16) -> bool
-    ensures { λ r. ⌜ r ≡ goodQuestion c place kind ⌝ }
-{
-    (1 <= place) & (place <= c) & (1 <= kind) & (kind <= 11) & (kind != 9)
-}
-
-// Whether those of the first n questions are.
-fn all_good(questions: &[u8], n: usize, c: u16) -> bool
-    requires { ⌜ (n ≤ mostQuestions) × (questionSize * n ≤ length (now questions)) ⌝ }
-    ensures { λ r. ⌜ r ≡ allBelow n (λ k. goodQuestion c (placeAt (now (questions .entry)) k) (kindAt (now (questions .entry)) k)) ⌝ }
-{
-    let mut k = 0;
-    while k < n {
-        let place = wire::u16_at(questions, QUESTION * k);
-        let kind = questions[QUESTION * k + 2];
-        if !good_question(place, kind, c) {
-            return false;
-        }
-        k += 1;
-    }
-    true
-}
-
-// Whether a list is one of up to MOST questions, all in range.
-fn good_list(questions: &[u8], c: u16) -> bool
-    ensures { λ r. ⌜ r ≡ goodList c (now (questions .entry)) ⌝ }
-{
-    let n = questions.len() / QUESTION;
-    if MOST < n {
-        return false;
-    }
-    if questions.len() != QUESTION * n {
-        return false;
-    }
-    all_good(questions, n, c)
-}
 
 // The answer for a place and a kind, out of the tables by counterparty, the columns' tiers and the cells.
 fn answer(
@@ -106,8 +63,8 @@ fn put_answers(
     let tiers = columns::tiers();
     let mut k = 0;
     while k < n {
-        let place = wire::u16_at(questions, QUESTION * k);
-        let kind = questions[QUESTION * k + 2];
+        let place = wire::u16_at(questions, asking::QUESTION * k);
+        let kind = questions[asking::QUESTION * k + 2];
         let amount = answer(place, kind, limits, ranking, words, rows, &tiers, cells);
         wire::put_u64(answers, ANSWER * k, amount);
         k += 1;
@@ -131,11 +88,11 @@ pub fn finish(
 {
     let limits = f.limits;
     let ranking = f.ranking;
-    let h = book::header_at(book);
-    if !good_list(questions, h.counterparties) {
+    let h = header::header_at(book);
+    if !asking::good_list(questions, h.counterparties) {
         return Answer::Refused(Refusal::Questions);
     }
-    let n = questions.len() / QUESTION;
+    let n = questions.len() / asking::QUESTION;
     let size = ANSWER * n;
     if answers.len() < size {
         return Answer::Refused(Refusal::AnswersShort);

@@ -13,7 +13,7 @@ fn before_excluded(b: &[u8], values: u64, stressed: u64) -> u64
     requires { ⌜ (Accepted (now b)) × (values ≡ reinsuranceValues (bookOf (now b))) × (stressed ≡ stressedLessNetted (bookOf (now b))) ⌝ }
     ensures { λ r. ⌜ r ≡ beforeExcluded (bookOf (now (b .entry))) ⌝ }
 {
-    let h = book::header_at(b);
+    let h = header::header_at(b);
     choice::less(h.total, values) + stressed
 }
 
@@ -21,7 +21,7 @@ pub fn vaf(b: &[u8], v: Values) -> u64
     requires { ⌜ (Accepted (now b)) × (FundSums (now b) v) ⌝ }
     ensures { λ r. ⌜ r ≡ VAF (bookOf (now (b .entry))) ⌝ }
 {
-    let h = book::header_at(b);
+    let h = header::header_at(b);
     choice::less(h.total, v.netted)
 }
 
@@ -29,7 +29,7 @@ pub fn stressed_vaf(b: &[u8], v: Values) -> u64
     requires { ⌜ (Accepted (now b)) × (FundSums (now b) v) ⌝ }
     ensures { λ r. ⌜ r ≡ VAF′ (bookOf (now (b .entry))) ⌝ }
 {
-    let h = book::header_at(b);
+    let h = header::header_at(b);
     choice::less(before_excluded(b, v.reinsurance, v.stressed), h.excluded)
 }
 
@@ -38,7 +38,7 @@ fn check_sums(b: &[u8], values: u64, stressed: u64) -> Checked
     requires { ⌜ (Accepted (now b)) × (values ≡ reinsuranceValues (bookOf (now b))) × (stressed ≡ stressedLessNetted (bookOf (now b))) ⌝ }
     ensures { λ r. ⌜ r ≡ fundCheck (bookOf (now (b .entry))) ⌝ }
 {
-    let h = book::header_at(b);
+    let h = header::header_at(b);
     let before = before_excluded(b, values, stressed);
     let within = (h.excluded <= before) & (choice::less(before, h.excluded) <= wire::M);
     let held = refusal::unless(Refusal::ReinsuranceValues, values <= h.total);
@@ -58,9 +58,9 @@ pub fn check_book(b: &[u8]) -> Checked
     requires { ⌜ Accepted (now b) ⌝ }
     ensures { λ r. ⌜ r ≡ fundCheck (bookOf (now (b .entry))) ⌝ }
 {
-    let h = book::header_at(b);
+    let h = header::header_at(b);
     let n = h.assets as usize;
-    let assets = book::assets_of(b);
+    let assets = header::assets_of(b);
     let mut values = 0;
     let mut stressed = 0;
     let mut place = 1;

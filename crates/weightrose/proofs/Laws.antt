@@ -28,12 +28,13 @@ use Rattle.report.specs.Answer.{reportOf, checkOf, answerOf, writtenBy, Answere
 use Rattle.convert.specs.Convert.{bookConverts, convertAnswer, Converts}
 use Rattle.bills.specs.Bills.{billsSize}
 use Rattle.billing.specs.Billed.{billsOf, billCheck, billAnswer, Billed}
-use Rattle.questions.specs.Questions.{answerSize, countOf, goodList}
+use Rattle.asking.specs.Questions.{answerSize, countOf, goodList}
 use Rattle.questions.specs.Headroom.{answersOf, headroomCheck, headroomAnswer, Asked}
-use Rattle.questions.proofs.Listed.{listed}
+use Rattle.asking.proofs.Listed.{listed}
+use Rattle.packing.specs.Packed.{packed}
+use Rattle.packing.specs.Version.{libraryVersion, number-read, schedule-read, book-read}
 use Rattle.weightrose.specs.Most.{report-most}
-use Rattle.weightrose.specs.Version.{libraryVersion, number-read, schedule-read, book-read}
-use Rattle.weightrose.specs.Exported.{packed, Apart, Reported, Converted, BillsWritten, Answers, Published, Versioned}
+use Rattle.weightrose.specs.Exported.{Apart, Reported, Converted, BillsWritten, Answers, Published, Versioned}
 
 -- no refusal has the number 0
 numbered : (why : Refusal) → 1 ≤ numberOf why

@@ -1,5 +1,4 @@
 -- What the exported entries promise.
---   packed         an answer as one number
 --   Apart          the number tells what was written from a refusal
 --   Reported       of weightrose_report
 --   Converted      of weightrose_convert
@@ -9,13 +8,12 @@
 --   Versioned      of weightrose_version
 use mathlib.Core.List.{List, _++_}
 use mathlib.Core.Path.{_≡_}
-use Prim.Native.Nat.{ℕ, _+_, _*_, _≤_, _<_}
+use Prim.Native.Nat.{ℕ, _≤_, _<_}
 use lib.ListN.{length, drop}
 use Rattle.words.specs.Words.{_≤?_, if_then_else_}
 use Rattle.wire.specs.Bytes.{bit}
 use Rattle.refusal.specs.declared.Answer.{Answer}
 use Rattle.refusal.specs.declared.Answer.the-variants.{Written, Refused}
-use Rattle.refusal.specs.Refusals.{numberOf, placeOf}
 use Rattle.schedule.specs.Schedule.{scheduleSize, version as scheduleVersion, published, scheduleBytes}
 use Rattle.schedule.specs.Check.{known}
 use Rattle.book.specs.Records.{version as bookVersion}
@@ -25,12 +23,8 @@ use Rattle.convert.specs.Convert.{convertAnswer, KeptBy}
 use Rattle.report.specs.Answer.{fundIn, reportOf, answerOf, writtenBy, CutsOf}
 use Rattle.billing.specs.Billed.{billsOf, billAnswer, AddUpBy}
 use Rattle.questions.specs.Headroom.{answersOf, headroomAnswer, RightBy}
-use Rattle.weightrose.specs.Version.{versionNumber, libraryVersion, numberIn, schedulesIn, booksIn}
-
--- "A refusal is a number and a place": the number in the high 32 bits, the place in the low ones; else the length written
-abbrev pub packed : Answer → ℕ
-packed (Written length) = length
-packed (Refused why) = numberOf why * 4294967296 + placeOf why
+use Rattle.packing.specs.Packed.{packed}
+use Rattle.packing.specs.Version.{versionNumber, libraryVersion, numberIn, schedulesIn, booksIn}
 
 -- the number tells the two apart: below 2^32 it is a length, from there on a refusal
 abbrev pub Apart : Answer → ℕ → Type 0

@@ -1,42 +1,12 @@
 // The library's exported entries, on numbers and byte slices.
-use refusal::Answer;
-ghost use mathlib.Core.Path.{_≡_};
-ghost use Prim.Native.Nat.{_+_, _*_, _<_};
-ghost use lib.ListN.{length};
-ghost use Rattle.weightrose.specs.Exported.{packed, Reported, Converted, BillsWritten, Answers, Published, Versioned};
-
-// The library's version, MAJOR.MINOR.PATCH.
-const MAJOR: u64 = 0;
-
-const MINOR: u64 = 10;
-
-const PATCH: u64 = 0;
-
-// It as one number.
-const NUMBER: u64 = MAJOR * 65536 + MINOR * 256 + PATCH;
-
-// The versions of schedules that are taken, 1 and 2: bit v for version v.
-const SCHEDULES: u64 = 2 + 4;
-
-// Those of books.
-const BOOKS: u64 = 2 + 4;
-
-// An answer as one number: a refusal's number above its place, or the length written.
-fn pack(answer: Answer) -> u64
-    ensures { λ r. ⌜ r ≡ packed answer ⌝ }
-{
-    match answer {
-        Answer::Written(length) => length as u64,
-        Answer::Refused(why) => refusal::number(why) * 4294967296 + refusal::place(why),
-    }
-}
+ghost use Rattle.weightrose.specs.Exported.{Reported, Converted, BillsWritten, Answers, Published, Versioned};
 
 // The report of a book under a schedule, into the lent bytes.
 #[no_mangle]
 pub extern "C" fn weightrose_report(schedule: &[u8], book: &[u8], report: &mut [u8]) -> u64
     ensures { λ r. ⌜ Reported (now (schedule .entry)) (now (book .entry)) (now (report .entry)) (now (report .exit)) r ⌝ }
 {
-    pack(entries::report(schedule, book, report))
+    packing::pack(entries::report(schedule, book, report))
 }
 
 // A book of version 1 as one of version 2, into the lent bytes.
@@ -44,7 +14,7 @@ pub extern "C" fn weightrose_report(schedule: &[u8], book: &[u8], report: &mut [
 pub extern "C" fn weightrose_convert(book: &[u8], converted: &mut [u8]) -> u64
     ensures { λ r. ⌜ Converted (now (book .entry)) (now (converted .entry)) (now (converted .exit)) r ⌝ }
 {
-    pack(convert::convert(book, converted))
+    packing::pack(convert::convert(book, converted))
 }
 
 // The desks' bills for the excesses of a book under a schedule, at a rate in ten-thousandths, into the lent bytes.
@@ -52,7 +22,7 @@ pub extern "C" fn weightrose_convert(book: &[u8], converted: &mut [u8]) -> u64
 pub extern "C" fn weightrose_bills(schedule: &[u8], book: &[u8], rate: u64, bills: &mut [u8]) -> u64
     ensures { λ r. ⌜ BillsWritten (now (schedule .entry)) (now (book .entry)) rate (now (bills .entry)) (now (bills .exit)) r ⌝ }
 {
-    pack(entries::bills(schedule, book, rate, bills))
+    packing::pack(entries::bills(schedule, book, rate, bills))
 }
 
 // How much more may be bought, question by question, into the lent bytes.
@@ -65,7 +35,7 @@ pub extern "C" fn weightrose_headroom(
 ) -> u64
     ensures { λ r. ⌜ Answers (now (schedule .entry)) (now (book .entry)) (now (questions .entry)) (now (answers .entry)) (now (answers .exit)) r ⌝ }
 {
-    pack(entries::headroom(schedule, book, questions, answers))
+    packing::pack(entries::headroom(schedule, book, questions, answers))
 }
 
 // The published schedule's bytes, into the lent bytes, and how many they are; 0 and no byte changed where fewer are lent.
@@ -76,7 +46,7 @@ pub extern "C" fn weightrose_published(schedule: &mut [u8]) -> u64
     if schedule.len() < schedule::SIZE {
         return 0;
     }
-    schedule::put_published(schedule);
+    published::put_published(schedule);
     schedule::SIZE as u64
 }
 
@@ -85,5 +55,5 @@ pub extern "C" fn weightrose_published(schedule: &mut [u8]) -> u64
 pub extern "C" fn weightrose_version() -> u64
     ensures { λ r. ⌜ Versioned r ⌝ }
 {
-    NUMBER + SCHEDULES * 4294967296 + BOOKS * 281474976710656
+    packing::version()
 }

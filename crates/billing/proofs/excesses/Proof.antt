@@ -6,9 +6,8 @@ use lib.ListN.{length, getD, length-replicate}
 use denote.Ref.{now}
 use borrow.Author.Needs.{needs}
 use Rattle.bills.specs.Bills.{deskCount}
-use Rattle.book.specs.HeaderLaws.{header-counts}
+use Rattle.book.specs.HeaderLaws.{header-counts, mitigants-from}
 use Rattle.fund.proofs.Limits.{taken}
-use Rattle.fund.proofs.Drawing.{mitigants-from}
 use Rattle.billing.proofs.Standing.{standable}
 use Rattle.billing.proofs.Written.{lined, serve-room, excesses-are}
 use Rattle.billing.proofs.excesses.Statement.{statement}

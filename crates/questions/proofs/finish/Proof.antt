@@ -9,8 +9,8 @@ use Rattle.wire.specs.Bytes.{placed}
 use Rattle.book.specs.Records.{C}
 use Rattle.book.specs.HeaderLaws.{header-counts}
 use Rattle.fund.proofs.Limits.{taken}
-use Rattle.questions.specs.Questions.{placeAt, kindAt, goodList}
-use Rattle.questions.proofs.Listed.{in-range, listed}
+use Rattle.asking.specs.Questions.{placeAt, kindAt, goodList}
+use Rattle.asking.proofs.Listed.{in-range, listed}
 use Rattle.questions.proofs.Answering.{ranked-by, answerable}
 use Rattle.questions.proofs.Chain.{bad-list, short}
 use Rattle.questions.proofs.Written.{answers-are, asked-for}

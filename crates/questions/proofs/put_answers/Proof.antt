@@ -11,7 +11,7 @@ use Rattle.wire.specs.Bytes.{placed}
 use Rattle.wire.specs.Amounts.{amountsBytes}
 use Rattle.wire.proofs.Amounts.{amounts-none, amounts-placed}
 use Rattle.headroom.specs.Headroom.{RankedBy}
-use Rattle.questions.specs.Questions.{placeAt, kindAt}
+use Rattle.asking.specs.Questions.{placeAt, kindAt}
 use Rattle.questions.specs.Tables.{answerAt, answersAt}
 use Rattle.questions.proofs.Written.{counted-long, counted-at}
 use Rattle.questions.proofs.put_answers.Statement.{statement}

@@ -1,3 +1,0 @@
-pub mod Made
-pub mod Refusing
-pub mod Zeros
