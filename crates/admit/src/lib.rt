@@ -1,12 +1,11 @@
-// Refusals 5 to 13 and 17: which byte strings are books.
-use book::Assets;
+// Refusals 5 to 13 and 17, in their order: which byte strings are books.
 use refusal::Checked;
 use refusal::Refusal;
 ghost use mathlib.Core.Path.{_≡_};
 ghost use Prim.Native.Nat.{_≤_};
 ghost use lib.ListN.{length};
-ghost use Rattle.book.specs.Records.{headerSize, C, N, K, specialist, assetsOf, mitigantsStart};
-ghost use Rattle.book.specs.Check.{countsFit, amountsFit, countsAdd, headerCheck, counterpartiesCheck, assetsCheck, mitigantsCheck, recordsCheck, specialistCheck, bookCheck};
+ghost use Rattle.book.specs.Records.{headerSize};
+ghost use Rattle.book.specs.Check.{countsFit, amountsFit, headerCheck, recordsCheck, bookCheck};
 ghost use Rattle.book.specs.Accepted.{HeaderFits};
 
 // The base's bounds: -M and M.
@@ -49,67 +48,7 @@ fn header_check(b: &[u8]) -> Checked
     )
 }
 
-// ---- the records, 10 to 13: the first bad one of each type, in book order
-
-fn counterparties_check(b: &[u8], c: usize) -> Checked
-    requires { ⌜ HeaderFits (now b) × (c ≡ C (now b)) ⌝ }
-    ensures { λ r. ⌜ r ≡ counterpartiesCheck (now (b .entry)) ⌝ }
-{
-    let mut passed = 0;
-    while passed < c {
-        let place = passed + 1;
-        if !fields::good_counterparty(b, place) {
-            return Checked::Bad(Refusal::Counterparty(place as u16));
-        }
-        passed = place;
-    }
-    Checked::Fine
-}
-
-fn assets_check(b: &[u8], c: u16, n: usize, assets: Assets) -> Checked
-    requires { ⌜ HeaderFits (now b) × (c ≡ C (now b)) × (n ≡ N (now b)) × (assets ≡ assetsOf (now b)) ⌝ }
-    ensures { λ r. ⌜ r ≡ assetsCheck (now (b .entry)) ⌝ }
-{
-    let mut passed = 0;
-    while passed < n {
-        let place = passed + 1;
-        if !fields::good_asset(c, book::asset_at(b, assets, place)) {
-            return Checked::Bad(Refusal::Asset(place as u16));
-        }
-        passed = place;
-    }
-    Checked::Fine
-}
-
-fn mitigants_check(b: &[u8], c: u16, k: usize, start: usize) -> Checked
-    requires { ⌜ HeaderFits (now b) × (c ≡ C (now b)) × (k ≡ K (now b)) × (start ≡ mitigantsStart (now b)) ⌝ }
-    ensures { λ r. ⌜ r ≡ mitigantsCheck (now (b .entry)) ⌝ }
-{
-    let mut passed = 0;
-    while passed < k {
-        let place = passed + 1;
-        if !fields::good_mitigant(c, book::mitigant_at(b, start, place)) {
-            return Checked::Bad(Refusal::Mitigant(place as u16));
-        }
-        passed = place;
-    }
-    Checked::Fine
-}
-
-// The counts of mitigants added up: 16 bits each, so they fit.
-fn counts_add(b: &[u8], n: usize, assets: Assets) -> usize
-    requires { ⌜ HeaderFits (now b) × (n ≡ N (now b)) × (assets ≡ assetsOf (now b)) ⌝ }
-    ensures { λ r. ⌜ r ≡ countsAdd (now (b .entry)) ⌝ }
-{
-    let mut sum = 0;
-    let mut place = 1;
-    while place <= n {
-        let a = book::asset_at(b, assets, place);
-        sum += a.count as usize;
-        place += 1;
-    }
-    sum
-}
+// ---- the records, 10 to 13
 
 fn records_check(b: &[u8]) -> Checked
     requires { ⌜ HeaderFits (now b) ⌝ }
@@ -120,31 +59,17 @@ fn records_check(b: &[u8]) -> Checked
     let n = h.assets as usize;
     let k = h.mitigants as usize;
     let section = header::assets_of(b);
-    let counterparties = counterparties_check(b, c as usize);
-    let assets = assets_check(b, c, n, section);
-    let mitigants = mitigants_check(b, c, k, header::mitigants_start(h));
-    let counts = refusal::unless(Refusal::MitigantCounts, counts_add(b, n, section) == k);
+    let counterparties = records::counterparties_check(b, c as usize);
+    let assets = records::assets_check(b, c, n, section);
+    let mitigants = records::mitigants_check(b, c, k, header::mitigants_start(h));
+    let counts = refusal::unless(
+        Refusal::MitigantCounts,
+        records::counts_add(b, n, section) == k,
+    );
     refusal::and_then(
         counterparties,
         refusal::and_then(assets, refusal::and_then(mitigants, counts)),
     )
-}
-
-// ---- the entries, 17: the first asset, in book order, with one that a specialist fund alone may have
-
-fn specialist_check(b: &[u8], marked: bool, n: usize, assets: Assets) -> Checked
-    requires { ⌜ HeaderFits (now b) × (marked ≡ specialist (now b)) × (n ≡ N (now b)) × (assets ≡ assetsOf (now b)) ⌝ }
-    ensures { λ r. ⌜ r ≡ specialistCheck (now (b .entry)) ⌝ }
-{
-    let mut passed = 0;
-    while passed < n {
-        let place = passed + 1;
-        if !fields::entry_allowed(marked, book::asset_at(b, assets, place)) {
-            return Checked::Bad(Refusal::SpecialistEntry(place as u16));
-        }
-        passed = place;
-    }
-    Checked::Fine
 }
 
 // ---- the whole book, 5 to 13 and 17
@@ -162,7 +87,7 @@ pub fn check(b: &[u8]) -> Checked
         Checked::Fine => {
             let h = header::header_at(b);
             let records = records_check(b);
-            let entries = specialist_check(
+            let entries = records::specialist_check(
                 b,
                 h.specialist,
                 h.assets as usize,

@@ -39,7 +39,7 @@ pub fn put(excesses: &[u64], rate: u64, bills: &mut [u8])
     while d < DESKS {
         running += excesses[d];
         let cost = running * rate / TEN_THOUSAND;
-        wire::put_u64(bills, 8 * d, cost - before);
+        placing::put_u64(bills, 8 * d, cost - before);
         before = cost;
         d += 1;
     }

@@ -1,6 +1,6 @@
 // A book's records: their types, the records out of the bytes, and the questions that document 01 has words for. The header's bytes are `header`'s.
 ghost use mathlib.Core.Path.{_≡_};
-ghost use Prim.Native.Nat.{_+_, _*_, _-_, _/_, _%_, _<_, _≤_};
+ghost use Prim.Native.Nat.{_+_, _*_, _/_, _%_, _<_, _≤_};
 ghost use lib.ListN.{length};
 ghost use Rattle.wire.specs.Bytes.{bit};
 ghost use Rattle.book.specs.Records.{headerSize, counterpartySize, assetSize, mitigantSize, assetsStart, mitigantsStart, counterpartyStart, kindOf, countMask, assetsOf, counterpartyAt, assetFrom, assetAt, mitigantAt};

@@ -14,10 +14,10 @@ use Rattle.bills.specs.Bills.{deskCount, billsSize, amountOfDesk, deskExcess, c
 use Rattle.report.specs.Answer.{fundIn, reportOf, writtenBy}
 use Rattle.desks.specs.BookLines.{lineOf, holdingLines, bookLines}
 use Rattle.billing.specs.Billed.{linesOf, excessIn, billsOf, billCheck, billAnswer}
-use Rattle.cases.specs.Build.{plain, usual, name, gradedName, bank}
-use Rattle.cases.specs.Reading.{amountsIn}
-use Rattle.cases.specs.Table.{publishedBytes, same, accepted, turned}
-use Rattle.cases.specs.Opened.{reportComputed}
+use Rattle.examples.specs.Build.{plain, usual, name, gradedName, bank}
+use Rattle.examples.specs.Reading.{amountsIn}
+use Rattle.examples.specs.Table.{publishedBytes, same, accepted, turned}
+use Rattle.examples.specs.Opened.{reportComputed}
 
 -- the bills, with every definition on the way opened: a proof that says `unfolding billsComputed` computes them
 unfoldable billsComputed : List ℕ → List ℕ → ℕ → List ℕ

@@ -7,8 +7,8 @@ use lib.ListN.{replicate}
 use Rattle.words.specs.Words.{every}
 use Rattle.report.specs.Answer.{reportOf, answerOf, writtenBy}
 use Rattle.cases.specs.Sums.{t2}
-use Rattle.cases.specs.Table.{publishedBytes, same, accepted, turned}
-use Rattle.cases.specs.Opened.{reportComputed}
+use Rattle.examples.specs.Table.{publishedBytes, same, accepted, turned}
+use Rattle.examples.specs.Opened.{reportComputed}
 
 -- "Report": the bytes of T2's, header and two lines
 abbrev t2Report : List ℕ

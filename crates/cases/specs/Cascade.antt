@@ -6,10 +6,10 @@ use lib.ListN.{replicate}
 use Rattle.words.specs.Words.{every}
 use Rattle.book.specs.Build.{counterparty, bookBytes}
 use Rattle.figures.specs.Read.{groupExcessIn, chargeIn}
-use Rattle.cases.specs.Build.{plain, reinsured, entered, usual, specialist, name, gradedName}
-use Rattle.cases.specs.Reading.{a3SumIn, a3LimitIn, printed, line, tierSets}
-use Rattle.cases.specs.Table.{Case, case, right}
-use Rattle.cases.specs.Opened.{reportComputed}
+use Rattle.examples.specs.Build.{plain, reinsured, entered, usual, specialist, name, gradedName}
+use Rattle.examples.specs.Reading.{a3SumIn, a3LimitIn, printed, line, tierSets}
+use Rattle.examples.specs.Table.{Case, case, right}
+use Rattle.examples.specs.Opened.{reportComputed}
 
 -- "group excess, A3 sum, A3 limit, charge"
 abbrev charges : List ℕ → List ℕ

@@ -10,9 +10,9 @@ use Rattle.book.specs.Build.{counterparty, asset, deskAsset, mitigant, bookByte
 use Rattle.conversion.specs.Conversion.{recounted, converted, firstCheck, narrowCheck}
 use Rattle.report.specs.Answer.{reportOf, answerOf, writtenBy}
 use Rattle.convert.specs.Convert.{bookConverts, convertAnswer}
-use Rattle.cases.specs.Build.{covered, plain, entered, usual, name, gradedName, bank}
-use Rattle.cases.specs.Table.{publishedBytes, same, accepted, turned}
-use Rattle.cases.specs.Opened.{reportComputed}
+use Rattle.examples.specs.Build.{covered, plain, entered, usual, name, gradedName, bank}
+use Rattle.examples.specs.Table.{publishedBytes, same, accepted, turned}
+use Rattle.examples.specs.Opened.{reportComputed}
 
 -- ---- a book with desks and the same without: assets with and without mitigants, reinsurance, a second asset of one group's tier
 
@@ -99,17 +99,3 @@ answers =
 answers-hold : T (every (λ t. t) answers)
 unfolding reportComputed recounted converted firstCheck narrowCheck bookConverts convertAnswer answers
 answers-hold = tt
-
--- ---- 256 and 257 mitigants on the second of two assets, of a fund with such a total and so much excluded; 18 "between 15 and 16"
-
-abbrev many : ℕ → ℕ → ℕ → List ℕ
-many total excluded k = bookBytes total 0 excluded (name ∷ []) (plain 11 1 1 ∷ covered 11 1 k 1 ∷ []) (replicate k (mitigant 1 0 1 0))
-
--- with no byte lent
-one-more : T (turned (convertAnswer (many 9 0 256) 0) 18 2)
-unfolding reportComputed firstCheck narrowCheck bookConverts convertAnswer
-one-more = tt
-
-one-more-behind : T (turned (convertAnswer (many 0 1 0x0101) 0) 15 0)
-unfolding reportComputed firstCheck narrowCheck bookConverts convertAnswer
-one-more-behind = tt

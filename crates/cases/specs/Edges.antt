@@ -6,10 +6,10 @@ use lib.ListN.{set}
 use Rattle.words.specs.Words.{every}
 use Rattle.wire.specs.Bytes.{M}
 use Rattle.book.specs.Build.{counterparty, asset, mitigant, bookBytes}
-use Rattle.cases.specs.Build.{plain, usual, name, minus}
-use Rattle.cases.specs.Reading.{vafIn, vaf′In, cells, cell, a3LimitIn}
-use Rattle.cases.specs.Table.{Case, publishedBytes, case, right}
-use Rattle.cases.specs.Opened.{reportComputed}
+use Rattle.examples.specs.Build.{plain, usual, name, minus}
+use Rattle.examples.specs.Reading.{vafIn, vaf′In, cells, cell, a3LimitIn}
+use Rattle.examples.specs.Table.{Case, publishedBytes, case, right}
+use Rattle.examples.specs.Opened.{reportComputed}
 
 -- VAF, VAF′ and the A3 limit
 abbrev figures : List ℕ → List ℕ

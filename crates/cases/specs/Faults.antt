@@ -6,10 +6,10 @@ use lib.ListN.{set}
 use Rattle.words.specs.Words.{every}
 use Rattle.wire.specs.Bytes.{M}
 use Rattle.book.specs.Build.{counterparty, asset, mitigant, bookBytes, specialistBytes}
-use Rattle.cases.specs.Build.{reinsured, entered, usual, name}
-use Rattle.cases.specs.Table.{publishedBytes}
+use Rattle.examples.specs.Build.{reinsured, entered, usual, name}
+use Rattle.examples.specs.Table.{publishedBytes}
 use Rattle.cases.specs.Turned.{TurnedBack, byBook, right}
-use Rattle.cases.specs.Opened.{reportComputed}
+use Rattle.examples.specs.Opened.{reportComputed}
 
 -- a mitigant of form 0
 abbrev noForm : List ℕ

@@ -14,10 +14,10 @@ use Rattle.exposure.specs.declared.Exposure.{Exposure}
 use Rattle.exposure.specs.Values.{net}
 use Rattle.exposure.specs.Parts.{recognised, halfCovered, halfOf, coveredBy, together, partsOf, exposures}
 use Rattle.exposure.specs.Tier.{tierOf}
-use Rattle.cases.specs.Build.{covered, reinsured, usual, specialist, name, bank, registered}
-use Rattle.cases.specs.Reading.{printed, line}
-use Rattle.cases.specs.Table.{case, right, same}
-use Rattle.cases.specs.Opened.{reportComputed}
+use Rattle.examples.specs.Build.{covered, reinsured, usual, specialist, name, bank, registered}
+use Rattle.examples.specs.Reading.{printed, line}
+use Rattle.examples.specs.Table.{case, right, same}
+use Rattle.examples.specs.Opened.{reportComputed}
 
 -- ---- readings
 

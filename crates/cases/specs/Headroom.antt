@@ -16,10 +16,10 @@ use Rattle.headroom.specs.Headroom.{withMore, leastOf, roomIn}
 use Rattle.report.specs.Answer.{fundIn, writtenBy}
 use Rattle.asking.specs.Questions.{answerSize, countOf, placeAt, kindAt, questionAt, goodQuestion, goodList}
 use Rattle.questions.specs.Headroom.{groupOf, tierFor, answerTo, answersOf, headroomCheck, headroomAnswer, answerIn}
-use Rattle.cases.specs.Build.{plain, reinsured, entered, usual, specialist, name, gradedName, bank}
-use Rattle.cases.specs.Reading.{amountsIn}
-use Rattle.cases.specs.Table.{publishedBytes, same, accepted, turned}
-use Rattle.cases.specs.Opened.{reportComputed}
+use Rattle.examples.specs.Build.{plain, reinsured, entered, usual, specialist, name, gradedName, bank}
+use Rattle.examples.specs.Reading.{amountsIn}
+use Rattle.examples.specs.Table.{publishedBytes, same, accepted, turned}
+use Rattle.examples.specs.Opened.{reportComputed}
 
 -- the answers, with every definition on the way opened: a proof that says `unfolding answersComputed` computes them
 unfoldable answersComputed : List ℕ → List ℕ → List ℕ → List ℕ

@@ -1,7 +1,3 @@
-pub mod Build
-pub mod Reading
-pub mod Opened
-pub mod Table
 pub mod Sums
 pub mod Turned
 pub mod Tiers

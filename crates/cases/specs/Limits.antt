@@ -5,10 +5,10 @@ use lib.Dec.{T}
 use lib.ListN.{set}
 use Rattle.words.specs.Words.{every}
 use Rattle.book.specs.Build.{counterparty, asset, mitigant, bookBytes}
-use Rattle.cases.specs.Build.{covered, plain, reinsured, entered, usual, name, bank, registered, minus}
-use Rattle.cases.specs.Reading.{a3LimitIn, printed, line}
-use Rattle.cases.specs.Table.{Case, publishedBytes, case, right}
-use Rattle.cases.specs.Opened.{reportComputed}
+use Rattle.examples.specs.Build.{covered, plain, reinsured, entered, usual, name, bank, registered, minus}
+use Rattle.examples.specs.Reading.{a3LimitIn, printed, line}
+use Rattle.examples.specs.Table.{Case, publishedBytes, case, right}
+use Rattle.examples.specs.Opened.{reportComputed}
 
 -- percents 34 and 66
 abbrev swapped : List ℕ

@@ -10,10 +10,10 @@ use Rattle.book.specs.Book.{bookOf}
 use Rattle.exposure.specs.declared.Exposure.{Exposure}
 use Rattle.exposure.specs.Parts.{exposures}
 use Rattle.exposure.specs.Tier.{noLimit, tierOf}
-use Rattle.cases.specs.Build.{covered, reinsured, usual, name, bank, registered}
-use Rattle.cases.specs.Reading.{allNetIn, unlimitedIn, printed, line}
-use Rattle.cases.specs.Table.{Case, case, right, same}
-use Rattle.cases.specs.Opened.{reportComputed}
+use Rattle.examples.specs.Build.{covered, reinsured, usual, name, bank, registered}
+use Rattle.examples.specs.Reading.{allNetIn, unlimitedIn, printed, line}
+use Rattle.examples.specs.Table.{Case, case, right, same}
+use Rattle.examples.specs.Opened.{reportComputed}
 
 -- ---- parts and remainder, in order
 

@@ -9,11 +9,11 @@ use Rattle.book.specs.Build.{bookBytes, specialistBytes}
 use Rattle.schedule.specs.declared.Schedule.{Schedule}
 use Rattle.schedule.specs.Schedule.{published, scheduleBytes}
 use Rattle.schedule.specs.PublishedLaws.{published2}
-use Rattle.cases.specs.Build.{plain, entered, usual, name, gradedName, bank}
-use Rattle.cases.specs.Reading.{vafIn, vaf′In, a3LimitIn, printed, line}
-use Rattle.cases.specs.Table.{Case, publishedBytes, right}
+use Rattle.examples.specs.Build.{plain, entered, usual, name, gradedName, bank}
+use Rattle.examples.specs.Reading.{vafIn, vaf′In, a3LimitIn, printed, line}
+use Rattle.examples.specs.Table.{Case, publishedBytes, right}
 use Rattle.cases.specs.Sums.{t6, t7}
-use Rattle.cases.specs.Opened.{reportComputed}
+use Rattle.examples.specs.Opened.{reportComputed}
 
 -- "Schedule version 2 has the same layout"
 abbrev version2 : Schedule → List ℕ

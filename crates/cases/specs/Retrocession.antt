@@ -5,10 +5,10 @@ use lib.Dec.{T}
 use Rattle.words.specs.Words.{every}
 use Rattle.book.specs.Build.{counterparty, asset, mitigant, specialistBytes}
 use Rattle.figures.specs.Read.{groupExcessIn, chargeIn}
-use Rattle.cases.specs.Build.{reinsured, entered, specialist, name, gradedName, bank, registered}
-use Rattle.cases.specs.Reading.{vaf′In, a3SumIn, cells, cell, printed, line}
-use Rattle.cases.specs.Table.{Case, case, right}
-use Rattle.cases.specs.Opened.{reportComputed}
+use Rattle.examples.specs.Build.{reinsured, entered, specialist, name, gradedName, bank, registered}
+use Rattle.examples.specs.Reading.{vaf′In, a3SumIn, cells, cell, printed, line}
+use Rattle.examples.specs.Table.{Case, case, right}
+use Rattle.examples.specs.Opened.{reportComputed}
 
 -- a name each, so that each treaty has a line of its own
 abbrev names : List (List ℕ)

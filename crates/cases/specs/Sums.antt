@@ -6,10 +6,10 @@ use lib.ListN.{length}
 use Rattle.words.specs.Words.{every}
 use Rattle.book.specs.Build.{asset, mitigant, bookBytes}
 use Rattle.figures.specs.Read.{groupExcessIn, chargeIn}
-use Rattle.cases.specs.Build.{plain, reinsured, entered, usual, name, gradedName, bank, registered}
-use Rattle.cases.specs.Reading.{vafIn, vaf′In, a3SumIn, a3LimitIn, printed, line}
-use Rattle.cases.specs.Table.{Case, case, right}
-use Rattle.cases.specs.Opened.{reportComputed}
+use Rattle.examples.specs.Build.{plain, reinsured, entered, usual, name, gradedName, bank, registered}
+use Rattle.examples.specs.Reading.{vafIn, vaf′In, a3SumIn, a3LimitIn, printed, line}
+use Rattle.examples.specs.Table.{Case, case, right}
+use Rattle.examples.specs.Opened.{reportComputed}
 
 abbrev charges : List ℕ → List ℕ
 charges r = chargeIn r ∷ []

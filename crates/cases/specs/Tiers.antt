@@ -8,9 +8,9 @@ use Rattle.book.specs.Build.{counterparty}
 use Rattle.book.specs.Book.{bookOf}
 use Rattle.exposure.specs.Parts.{exposures}
 use Rattle.exposure.specs.Tier.{noLimit, tierOf}
-use Rattle.cases.specs.Build.{plain, reinsured, entered, usual, name, gradedName, bank, registered}
-use Rattle.cases.specs.Table.{same}
-use Rattle.cases.specs.Opened.{reportComputed}
+use Rattle.examples.specs.Build.{plain, reinsured, entered, usual, name, gradedName, bank, registered}
+use Rattle.examples.specs.Table.{same}
+use Rattle.examples.specs.Opened.{reportComputed}
 
 -- an asset and its tier
 record Classed : Type 0 where

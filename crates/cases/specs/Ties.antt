@@ -21,10 +21,10 @@ use Rattle.figures.proofs.Orders.{inOrder}
 use Rattle.fund.specs.Figures.{unroundedOf, fundOf}
 use Rattle.fund.proofs.Cents.{centsOrder}
 use Rattle.report.specs.Answer.{reportOf, answerOf}
-use Rattle.cases.specs.Build.{plain, reinsured, entered, usual, name, bank}
-use Rattle.cases.specs.Reading.{printed, line}
-use Rattle.cases.specs.Table.{publishedBytes, same, accepted}
-use Rattle.cases.specs.Opened.{reportComputed}
+use Rattle.examples.specs.Build.{plain, reinsured, entered, usual, name, bank}
+use Rattle.examples.specs.Reading.{printed, line}
+use Rattle.examples.specs.Table.{publishedBytes, same, accepted}
+use Rattle.examples.specs.Opened.{reportComputed}
 
 -- ---- readings of the ranking
 

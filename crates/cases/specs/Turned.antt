@@ -8,9 +8,9 @@ use Rattle.words.specs.Words.{every}
 use Rattle.wire.specs.Bytes.{M}
 use Rattle.book.specs.Build.{counterparty, mitigant, bookBytes}
 use Rattle.report.specs.Answer.{answerOf}
-use Rattle.cases.specs.Build.{covered, plain, reinsured, entered, usual, name, minus}
-use Rattle.cases.specs.Table.{publishedBytes, turned}
-use Rattle.cases.specs.Opened.{reportComputed}
+use Rattle.examples.specs.Build.{covered, plain, reinsured, entered, usual, name, minus}
+use Rattle.examples.specs.Table.{publishedBytes, turned}
+use Rattle.examples.specs.Opened.{reportComputed}
 
 -- what is handed over, and the refusal's number and place
 pub record TurnedBack : Type 0 where

@@ -4,10 +4,10 @@ use Prim.Native.Nat.{ℕ}
 use lib.Dec.{T}
 use Rattle.words.specs.Words.{every}
 use Rattle.book.specs.Build.{asset, counterparty, bookBytes}
-use Rattle.cases.specs.Build.{plain, usual, name}
-use Rattle.cases.specs.Reading.{vafIn, vaf′In, allNetIn, unlimitedIn, cells, cell}
-use Rattle.cases.specs.Table.{Case, case, right}
-use Rattle.cases.specs.Opened.{reportComputed}
+use Rattle.examples.specs.Build.{plain, usual, name}
+use Rattle.examples.specs.Reading.{vafIn, vaf′In, allNetIn, unlimitedIn, cells, cell}
+use Rattle.examples.specs.Table.{Case, case, right}
+use Rattle.examples.specs.Opened.{reportComputed}
 
 abbrev figures : List ℕ → List ℕ
 figures r = vafIn r ∷ vaf′In r ∷ allNetIn r ∷ unlimitedIn r ∷ []

@@ -1,3 +1,1 @@
-pub mod Posting
 pub mod Folding
-pub mod Done

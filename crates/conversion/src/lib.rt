@@ -51,6 +51,6 @@ pub fn put(d: &mut [u8], b: &[u8])
     requires { ⌜ Narrow (now b) × (length (now b) ≤ length (now d)) ⌝ }
     ensures { λ _. ⌜ now (d .exit) ≡ converted (now (b .entry)) ++ drop (length (now (b .entry))) (now (d .entry)) ⌝ }
 {
-    wire::put_all(d, b);
+    placing::put_all(d, b);
     d[4] = VERSION;
 }

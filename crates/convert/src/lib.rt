@@ -17,7 +17,7 @@ fn check(book: &[u8]) -> Checked
             match records {
                 Checked::Bad(why) => Checked::Bad(why),
                 Checked::Fine => {
-                    let values = values::check_book(book);
+                    let values = book_values::check_book(book);
                     refusal::and_then(values, conversion::narrow_check(book))
                 }
             }

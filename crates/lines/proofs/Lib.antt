@@ -1,4 +1,3 @@
-pub mod Putting
 pub mod Tries
 pub mod Entries
 pub mod Along
@@ -6,6 +5,3 @@ pub mod Among
 pub mod Heads
 pub mod Turn
 pub mod Groups
-pub mod Writing
-pub mod Whole
-pub mod Cases

@@ -1,5 +1,4 @@
--- What `put_line`, `list_lines` and `put_report` start from and promise.
---   LinePut        a line is put, and nothing else changes
+-- What `list_lines` and `writing::put_report` start from and promise.
 --   Listable       what a listing starts from
 --   Listed         the number of lines, the sets of the groups' tiers, and the list of entries
 --   allExposures   all exposures of the groups in the tiers
@@ -18,20 +17,11 @@ use Rattle.wire.specs.Bytes.{M, placed}
 use Rattle.cascade.specs.Cascade.{tiers, byTier, ranked}
 use Rattle.cascade.specs.Promise.{Once}
 use Rattle.cascade.proofs.Core.{Ordered}
-use Rattle.figures.specs.declared.Line.{Line}
 use Rattle.figures.specs.declared.Figures.{Figures}
-use Rattle.figures.specs.Report.{headSize, lineSize, lineBytes, linesOf, report}
+use Rattle.figures.specs.Report.{headSize, lineSize, linesOf, report}
 use Rattle.rows.specs.Rows.{mostGroups, columns, row}
 use Rattle.lines.specs.Table.{setOf, Heads, tableFund}
 use Rattle.lines.specs.Listing.{groupIn, tierIn, exposureIn, shown, allEntries, entriesOf, tried, Source}
-
--- C-12: "each line put straight into the lent report, with no buffer between, by a part shown to change only that line's 40 bytes".
--- The line's bytes stand at the place, those before it and those behind it are as they were, and r is the place behind it.
-pub record LinePut (line : Line) (at : ℕ) (before after : List ℕ) (r : ℕ) : Type 0 where
-  pub there : take lineSize (drop at after) ≡ lineBytes line
-  pub earlier : take at after ≡ take at before
-  pub later : drop (at + lineSize) after ≡ drop (at + lineSize) before
-  pub place : r ≡ at + lineSize
 
 -- a row to each group, an entry of sets to each, and room for an entry to each tier
 pub record Listable (cells : List ℕ) (groups : ℕ) (ranking sets list : List ℕ) : Type 0 where

@@ -40,7 +40,7 @@ fn draw(
     let k = h.mitigants as usize;
     let first = header::assets_of(book);
     let start = header::mitigants_start(h);
-    let values = assets::fill(
+    let values = inventory::fill(
         book,
         first,
         n,
@@ -55,7 +55,7 @@ fn draw(
     );
     assets::halve(halves);
     covering::cover(book, start, k, terms, starts, draws, halves, rests, covered);
-    let sums = cells::post(
+    let sums = posting::post(
         book,
         start,
         n,

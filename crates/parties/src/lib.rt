@@ -28,8 +28,8 @@ pub fn fill(
         let shared = rows[above as usize];
         let fresh = (COLUMNS * groups) as u16;
         let own = place as u16;
-        words[place] = columns::word_of(who);
-        terms[place] = columns::terms_of(who);
+        words[place] = classes::word_of(who);
+        terms[place] = classes::terms_of(who);
         tops[place] = choice::short(up == 0, own, above);
         rows[place] = choice::short(up == 0, fresh, shared);
         heads[groups] = own;

@@ -95,9 +95,9 @@ fn put_head(d: &mut [u8])
     ensures { λ _. ⌜ now (d .exit) ≡ placed (now (d .entry)) 0 (headBytes published) ⌝ }
 {
     put_mark(d);
-    wire::put_u16(d, 4, PER_MILLE);
-    wire::put_u16(d, 6, FIRST as u16);
-    wire::put_u16(d, 8, SECOND as u16);
+    placing::put_u16(d, 4, PER_MILLE);
+    placing::put_u16(d, 6, FIRST as u16);
+    placing::put_u16(d, 8, SECOND as u16);
 }
 
 fn put_row(d: &mut [u8], at: usize, row: Row)
@@ -105,10 +105,10 @@ fn put_row(d: &mut [u8], at: usize, row: Row)
     requires { ⌜ at + rowSize ≤ length (now d) ⌝ }
     ensures { λ _. ⌜ now (d .exit) ≡ placed (now (d .entry)) at (rowBytes row) ⌝ }
 {
-    wire::put_u16(d, at, row.rate as u16);
-    wire::put_u16(d, at + 2, row.second as u16);
-    wire::put_u16(d, at + 4, row.base_rate as u16);
-    wire::put_u64(d, at + 6, row.fixed);
+    placing::put_u16(d, at, row.rate as u16);
+    placing::put_u16(d, at + 2, row.second as u16);
+    placing::put_u16(d, at + 4, row.base_rate as u16);
+    placing::put_u64(d, at + 6, row.fixed);
 }
 
 // The published schedule's rows.

@@ -66,7 +66,7 @@ fn put_answers(
         let place = wire::u16_at(questions, asking::QUESTION * k);
         let kind = questions[asking::QUESTION * k + 2];
         let amount = answer(place, kind, limits, ranking, words, rows, &tiers, cells);
-        wire::put_u64(answers, ANSWER * k, amount);
+        placing::put_u64(answers, ANSWER * k, amount);
         k += 1;
     }
 }

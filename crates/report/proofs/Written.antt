@@ -35,7 +35,7 @@ use Rattle.lines.specs.Table.{Heads, tableFund}
 use Rattle.lines.specs.Listing.{source}
 use Rattle.lines.specs.Promise.{Listable, Listed, allExposures, Table, Ready, Reported}
 use Rattle.lines.proofs.Heads.{head-exposure, no-exposure}
-use Rattle.lines.proofs.Whole.{listed-table}
+use Rattle.writing.proofs.Whole.{listed-table}
 use Rattle.parties.specs.Rows.{topsTo}
 use Rattle.parties.specs.RowLaws.{tops-le, lower, headed-length, Head, head-is, head-at, heads-rise}
 use Rattle.cells.specs.Cells.{rowAt}

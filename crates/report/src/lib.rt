@@ -32,10 +32,10 @@ pub fn finish(
     let ranking = f.ranking;
     let figures = f.figures;
     let n = lines::list_lines(cells, groups, ranking, sets, list);
-    let size = lines::HEAD + lines::LINE * n;
+    let size = layout::HEAD + layout::LINE * n;
     if report.len() < size {
         return Answer::Refused(Refusal::BufferShort);
     }
-    lines::put_report(report, limits, cells, sets, heads, list, n, figures);
+    writing::put_report(report, limits, cells, sets, heads, list, n, figures);
     Answer::Written(size)
 }

@@ -39,7 +39,7 @@ fn put_number(out: &mut [u8], at: usize, n: u64, end: u8) -> usize
     ensures { λ r. ⌜ r ≤ at + 21 ⌝ }
 {
     let next = put_decimal(out, at, n);
-    wire::put_u8(out, next, end);
+    placing::put_u8(out, next, end);
     next + 1
 }
 

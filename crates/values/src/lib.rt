@@ -1,4 +1,4 @@
-// A fund's VAF and VAF′ out of the sums over its assets, and refusals 14 and 15: out of such sums, or of a book by itself.
+// A fund's VAF and VAF′, and refusals 14 and 15, out of the sums over its assets.
 use assets::Values;
 use refusal::Checked;
 use refusal::Refusal;
@@ -34,7 +34,7 @@ pub fn stressed_vaf(b: &[u8], v: Values) -> u64
 }
 
 // Refusals 14 and 15, out of the two sums.
-fn check_sums(b: &[u8], values: u64, stressed: u64) -> Checked
+pub fn check_sums(b: &[u8], values: u64, stressed: u64) -> Checked
     requires { ⌜ (Accepted (now b)) × (values ≡ reinsuranceValues (bookOf (now b))) × (stressed ≡ stressedLessNetted (bookOf (now b))) ⌝ }
     ensures { λ r. ⌜ r ≡ fundCheck (bookOf (now (b .entry))) ⌝ }
 {
@@ -51,26 +51,4 @@ pub fn check(b: &[u8], v: Values) -> Checked
     ensures { λ r. ⌜ r ≡ fundCheck (bookOf (now (b .entry))) ⌝ }
 {
     check_sums(b, v.reinsurance, v.stressed)
-}
-
-// The same of a book by itself.
-pub fn check_book(b: &[u8]) -> Checked
-    requires { ⌜ Accepted (now b) ⌝ }
-    ensures { λ r. ⌜ r ≡ fundCheck (bookOf (now (b .entry))) ⌝ }
-{
-    let h = header::header_at(b);
-    let n = h.assets as usize;
-    let assets = header::assets_of(b);
-    let mut values = 0;
-    let mut stressed = 0;
-    let mut place = 1;
-    while place <= n {
-        let a = book::asset_at(b, assets, place);
-        let treaty = book::is_reinsurance(a);
-        let above = choice::less(exposure::stressed_of(a), a.offsets);
-        values += choice::amount(treaty, a.value, 0);
-        stressed += choice::amount(treaty, above, 0);
-        place += 1;
-    }
-    check_sums(b, values, stressed)
 }

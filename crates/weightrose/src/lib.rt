@@ -1,5 +1,5 @@
 // The library's exported entries, on numbers and byte slices.
-ghost use Rattle.weightrose.specs.Exported.{Reported, Converted, BillsWritten, Answers, Published, Versioned};
+ghost use Rattle.promises.specs.Exported.{Reported, Converted, BillsWritten, Answers, Published, Versioned};
 
 // The report of a book under a schedule, into the lent bytes.
 #[no_mangle]

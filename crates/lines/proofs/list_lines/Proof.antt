@@ -10,7 +10,7 @@ use lib.ListN.{length, length-set}
 use Rattle.words.specs.Words.{those}
 use Rattle.cascade.specs.Cascade.{tiers}
 use Rattle.lines.specs.Listing.{shown, allEntries, entriesOf, tried}
-use Rattle.lines.proofs.Putting.{Putting, put-start, put-piece, put-end}
+use Rattle.layout.proofs.Putting.{Putting, put-start, put-piece, put-end}
 use Rattle.lines.proofs.Tries.{tried-long}
 use Rattle.lines.proofs.Entries.{ones-small, entries-ones}
 use Rattle.lines.proofs.Heads.{lines-ones}

@@ -1,5 +1,5 @@
 -- `weightrose::weightrose_bills` meets its contract: the entry's promise, its answer packed.
-use Rattle.weightrose.proofs.Laws.{bills-written}
+use Rattle.promises.proofs.Laws.{bills-written}
 use borrow.Author.Needs.{needs}
 use Rattle.weightrose.proofs.weightrose_bills.Statement.{statement}
 use Rattle.weightrose.proofs.weightrose_bills.Tie as tie

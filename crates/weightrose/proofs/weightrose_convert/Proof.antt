@@ -1,5 +1,5 @@
 -- `weightrose::weightrose_convert` meets its contract: the entry's promise, its answer packed.
-use Rattle.weightrose.proofs.Laws.{converts}
+use Rattle.promises.proofs.Laws.{converts}
 use borrow.Author.Needs.{needs}
 use Rattle.weightrose.proofs.weightrose_convert.Statement.{statement}
 use Rattle.weightrose.proofs.weightrose_convert.Tie as tie

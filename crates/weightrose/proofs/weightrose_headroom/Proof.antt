@@ -1,5 +1,5 @@
 -- `weightrose::weightrose_headroom` meets its contract: the entry's promise, its answer packed.
-use Rattle.weightrose.proofs.Laws.{answered}
+use Rattle.promises.proofs.Laws.{answered}
 use borrow.Author.Needs.{needs}
 use Rattle.weightrose.proofs.weightrose_headroom.Statement.{statement}
 use Rattle.weightrose.proofs.weightrose_headroom.Tie as tie

@@ -1,6 +1,6 @@
 -- `weightrose::weightrose_published` meets its contract.
 use denote.Ref.{now}
-use Rattle.weightrose.proofs.Laws.{too-short, put}
+use Rattle.promises.proofs.Laws.{too-short, put}
 use borrow.Author.Needs.{needs}
 use Rattle.weightrose.proofs.weightrose_published.Statement.{statement}
 use Rattle.weightrose.proofs.weightrose_published.Tie as tie

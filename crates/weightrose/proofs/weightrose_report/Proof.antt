@@ -1,5 +1,5 @@
 -- `weightrose::weightrose_report` meets its contract: the entry's promise, its answer packed.
-use Rattle.weightrose.proofs.Laws.{reported}
+use Rattle.promises.proofs.Laws.{reported}
 use borrow.Author.Needs.{needs}
 use Rattle.weightrose.proofs.weightrose_report.Statement.{statement}
 use Rattle.weightrose.proofs.weightrose_report.Tie as tie

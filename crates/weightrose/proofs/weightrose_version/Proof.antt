@@ -1,5 +1,5 @@
 -- `weightrose::weightrose_version` meets its contract: the number, and what is read in it.
-use Rattle.weightrose.proofs.Laws.{versioned}
+use Rattle.promises.proofs.Laws.{versioned}
 use borrow.Author.Needs.{needs}
 use Rattle.weightrose.proofs.weightrose_version.Statement.{statement}
 use Rattle.weightrose.proofs.weightrose_version.Tie as tie

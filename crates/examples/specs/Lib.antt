@@ -1,0 +1,4 @@
+pub mod Build
+pub mod Reading
+pub mod Opened
+pub mod Table

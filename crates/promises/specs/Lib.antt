@@ -1,0 +1,3 @@
+pub mod Exported
+pub mod Tenfold
+pub mod Converted

@@ -1,0 +1,90 @@
+// The writer of a report: each line of a list put straight into the lent bytes, then the header.
+use cascade::TIERS;
+use figures::Figures;
+use figures::Head;
+use figures::Line;
+use rows::COLUMNS;
+ghost use mathlib.Core.Path.{_≡_};
+ghost use lib.ListN.{length};
+ghost use Rattle.words.specs.Words.{sumOf};
+ghost use Rattle.wire.specs.Bytes.{placed};
+ghost use Rattle.figures.specs.Report.{headSize, joined};
+ghost use Rattle.lines.specs.Listing.{source, listedLines};
+ghost use Rattle.lines.specs.Promise.{Entries, Ready, Reported};
+
+// No group has this number.
+const NONE: usize = 65535;
+
+// The lines along a list of entries, behind the header; their excesses summed. What stands is 0 again where the group changes.
+fn put_list(
+    d: &mut [u8],
+    limits: [u64; TIERS],
+    cells: &[u64],
+    sets: &[u16],
+    heads: &[u16],
+    list: &[u16],
+    lines: usize,
+) -> u64
+    requires { ⌜ Entries (source limits (now cells) (now sets) (now heads)) (now list) lines (length (now d)) ⌝ }
+    ensures { λ r. ⌜ (r ≡ sumOf (λ x. x .excess) (listedLines (source limits (now (cells .entry)) (now (sets .entry)) (now (heads .entry))) (now (list .entry)) lines)) × (now (d .exit) ≡ placed (now (d .entry)) headSize (joined (listedLines (source limits (now (cells .entry)) (now (sets .entry)) (now (heads .entry))) (now (list .entry)) lines))) ⌝ }
+{
+    let mut excesses: u64 = 0;
+    let mut standing: u64 = 0;
+    let mut last = NONE;
+    let mut place = layout::HEAD;
+    let mut i = 0;
+    while i < lines {
+        let entry = list[i] as usize;
+        let k = entry / TIERS;
+        let t = entry % TIERS;
+        let under = choice::amount(k == last, standing, 0);
+        let exposure = cells[COLUMNS * k + t];
+        let limit = limits[t];
+        let cut = cascade::cut(limit, exposure, under);
+        let line = Line {
+            top: heads[k],
+            tier: t as u8,
+            tiers: sets[k],
+            exposure,
+            limit,
+            left: cut.left,
+            excess: cut.excess,
+        };
+        place = layout::put_line(d, place, line);
+        standing = cut.standing;
+        excesses += cut.excess;
+        last = k;
+        i += 1;
+    }
+    excesses
+}
+
+// The report of a table that is listed: its lines, then the header, which has their excesses. No byte behind the report changes.
+pub fn put_report(
+    buffer: &mut [u8],
+    limits: [u64; TIERS],
+    cells: &[u64],
+    sets: &[u16],
+    heads: &[u16],
+    list: &[u16],
+    lines: usize,
+    figures: Figures,
+)
+    requires { ⌜ Ready (source limits (now cells) (now sets) (now heads)) (now list) lines figures (length (now buffer)) ⌝ }
+    ensures { λ _. ⌜ Reported (source limits (now (cells .entry)) (now (sets .entry)) (now (heads .entry))) (now (list .entry)) lines figures (now (buffer .entry)) (now (buffer .exit)) ⌝ }
+{
+    let group_excess = put_list(buffer, limits, cells, sets, heads, list, lines);
+    let over = choice::less(figures.a3_sum, figures.a3_limit);
+    let head = Head {
+        lines: lines as u16,
+        vaf: figures.vaf,
+        stressed_vaf: figures.stressed_vaf,
+        all_net: figures.all_net,
+        unlimited: figures.unlimited,
+        group_excess,
+        a3_sum: figures.a3_sum,
+        a3_limit: figures.a3_limit,
+        charge: group_excess + over,
+    };
+    layout::put_head(buffer, head);
+}
