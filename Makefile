@@ -22,10 +22,10 @@ target/demo: crates.txt $(wildcard crates/*/src/*.rt)
 	@touch target/demo
 
 # The proofs come first, since what they leave in target/ is what the tests link; the last line is rt ci's own, shown again.
-# Four at a time, since rt waits for the last of each batch: up to 6 GB. RT_JOBS=2 takes less, and some minutes more.
+# Four at a time, since rt waits for the last of each batch: up to 7 GB. RT_JOBS=2 takes less memory, and a little longer.
 test:
-	@log=$$(mktemp) && { RT_JOBS=$${RT_JOBS:-4} rt ci 2>&1; echo $$? >$$log.status; } | tee $$log && test "$$(cat $$log.status)" = 0 \
-	    && $(MAKE) --no-print-directory -j2 -Otarget tests && tail -n 1 $$log && rm -f $$log $$log.status
+	@log=$$(mktemp) && { TMPDIR=$$(.ci/temporary) RT_JOBS=$${RT_JOBS:-4} rt ci 2>&1; echo $$? >$$log.status; } | tee $$log \
+	    && test "$$(cat $$log.status)" = 0 && $(MAKE) --no-print-directory -j2 -Otarget tests && tail -n 1 $$log && rm -f $$log $$log.status
 
 include tests/tests.mk
 
