@@ -10,6 +10,9 @@
 # make bench           times of the library, of the second implementation and of a yardstick
 .PHONY: demo test library python clean
 
+# The prover, its temporary files in memory where there is room.
+RT = TMPDIR=$$(.ci/temporary) rt
+
 demo: target/demo
 	@echo 'Published schedule; one ungraded name with two assets of 3,000,000.00, kinds 11 and 6.'
 	@echo 'top tier exposure limit left excess'
@@ -18,13 +21,13 @@ demo: target/demo
 target/demo: crates.txt $(wildcard crates/*/src/*.rt)
 	@mkdir -p target
 	@echo 'Proving the desk; this takes some minutes the first time.'
-	@rt check desk >target/demo.log 2>&1 || { cat target/demo.log; exit 1; }
+	@$(RT) check desk >target/demo.log 2>&1 || { cat target/demo.log; exit 1; }
 	@touch target/demo
 
 # The proofs come first, since what they leave in target/ is what the tests link; the last line is rt ci's own, shown again.
-# Four at a time, since rt waits for the last of each batch: up to 7 GB. RT_JOBS=2 takes less memory, and a little longer.
+# Four at a time, since rt waits for the last of each batch: up to 8 GB. RT_JOBS=2 takes 6, and half a minute more where crates of a level take longest.
 test:
-	@log=$$(mktemp) && { TMPDIR=$$(.ci/temporary) RT_JOBS=$${RT_JOBS:-4} rt ci 2>&1; echo $$? >$$log.status; } | tee $$log \
+	@log=$$(mktemp) && { RT_JOBS=$${RT_JOBS:-4} $(RT) ci 2>&1; echo $$? >$$log.status; } | tee $$log \
 	    && test "$$(cat $$log.status)" = 0 && $(MAKE) --no-print-directory -j2 -Otarget tests && tail -n 1 $$log && rm -f $$log $$log.status
 
 include tests/tests.mk
@@ -32,7 +35,7 @@ include tests/tests.mk
 library: target/staticlib/libweightrose.a
 
 target/staticlib/libweightrose.a: crates.txt $(wildcard crates/*/src/*.rt)
-	rt staticlib weightrose
+	$(RT) staticlib weightrose
 
 python: python/weightrose/libweightrose.so
 

@@ -1,4 +1,4 @@
-// What an entry wants of a fund: the report, the bills or the answers, and what each of them promises.
+// What an entry wants of a fund: the report, the bills or the answers, and what each of them promises. How one is added: docs/ENTRIES.md.
 use fund::Fund;
 use refusal::Answer;
 ghost use Rattle.fund.specs.Tables.{FundTables};
