@@ -1,7 +1,7 @@
 -- C-13: reports of books with desks, and the converter's answers.
 use mathlib.Core.Bool.{Bool}
 use mathlib.Core.List.{List, [], _∷_, _++_}
-use Prim.Native.Nat.{ℕ, _+_, _-_}
+use Prim.Native.Nat.{ℕ, _+_}
 use lib.Dec.{T}
 use lib.ListN.{length, set, take, replicate}
 use Rattle.words.specs.Words.{every}

@@ -1,5 +1,5 @@
-// What is read off the two numbers that `classes` looks up: the column of an exposure, whether half of reinsurance may be covered, how far promises count; and the tier of each
-// column.
+// What is read off the two numbers that `classes` looks up: the column of an exposure, whether half of reinsurance may be covered, how far promises count;
+// and the tier of each column.
 use rows::COLUMNS;
 ghost use mathlib.Core.Path.{_≡_};
 ghost use Prim.Native.Nat.{_-_, _/_, _%_, _^_, _≤_, _<_};

@@ -1,5 +1,5 @@
-// A book's exposures added up by group and tier, out of the tables of what each mitigant covers and of what is left of each asset: each once, at the row of its group
-// and its own column.
+// A book's exposures added up in a table of cells, each once, at the row of its group and its own column: what each mitigant covers, and what is left of each asset. Then the
+// columns are folded onto their tiers.
 use cells::Sums;
 ghost use mathlib.Core.List.{[]};
 ghost use mathlib.Core.Path.{_≡_};

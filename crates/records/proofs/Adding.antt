@@ -7,8 +7,6 @@ use Rattle.words.specs.Words.{sumOf}
 use Rattle.book.specs.Records.{N, assetAt}
 use Rattle.book.specs.Book.{Holding, holdingsFrom}
 use Rattle.book.specs.Check.{countsAdd}
-use Rattle.refusal.specs.declared.Checked.{Checked}
-use Rattle.refusal.specs.declared.Refusal.{Refusal}
 
 -- `sum` is the counts of the assets before a place; the next asset's first mitigant is at place 1 + sum
 pub record Adding (b : List ℕ) (sum place : ℕ) : Type 0 where
