@@ -25,7 +25,7 @@ target/demo: crates.txt $(wildcard crates/*/src/*.rt)
 	@touch target/demo
 
 # The proofs come first, since what they leave in target/ is what the tests link; the last line is rt ci's own, shown again.
-# Four at a time, since rt waits for the last of each batch: up to 8 GB. RT_JOBS=2 takes 6, and half a minute more where crates of a level take longest.
+# Four at a time, up to 8 GB: rt waits for the last of a batch, and three dear crates stand on one level (docs/DECISIONS.md). RT_JOBS=2 takes less memory.
 test:
 	@log=$$(mktemp) && { RT_JOBS=$${RT_JOBS:-4} $(RT) ci 2>&1; echo $$? >$$log.status; } | tee $$log \
 	    && test "$$(cat $$log.status)" = 0 && $(MAKE) --no-print-directory -j2 -Otarget tests && tail -n 1 $$log && rm -f $$log $$log.status
