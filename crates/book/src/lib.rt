@@ -4,7 +4,7 @@ ghost use Prim.Native.Nat.{_+_, _*_, _/_, _%_, _<_, _≤_};
 ghost use lib.ListN.{length};
 ghost use Rattle.wire.specs.Bytes.{bit};
 ghost use Rattle.book.specs.Records.{headerSize, counterpartySize, assetSize, mitigantSize, assetsStart, mitigantsStart, counterpartyStart, kindOf, countMask, assetsOf, counterpartyAt, assetFrom, assetAt, mitigantAt};
-ghost use Rattle.book.specs.Fields.{kindNumber, graded, linked, rises, reinsurance};
+ghost use Rattle.book.specs.Fields.{kindNumber, graded, related, affiliate, secondLimb, linked, rises, reinsurance};
 
 // What of an asset's bytes 6 and 7 is its count of mitigants in the first version, and in the second.
 pub const BOTH_BYTES: u16 = 65535;
@@ -176,7 +176,7 @@ pub fn mitigant_at(b: &[u8], start: usize, place: usize) -> Mitigant
 }
 
 // Bit n of a byte.
-fn has_bit(b: u8, n: u8) -> bool
+pub fn has_bit(b: u8, n: u8) -> bool
     requires { ⌜ n < 8 ⌝ }
     ensures { λ r. ⌜ r ≡ bit n b ⌝ }
 {
@@ -200,6 +200,25 @@ pub fn is_graded(who: Counterparty) -> bool
     ensures { λ r. ⌜ r ≡ graded who ⌝ }
 {
     (1 <= who.grade) & (who.grade <= 3)
+}
+
+pub fn is_related(who: Counterparty) -> bool
+    ensures { λ r. ⌜ r ≡ related who ⌝ }
+{
+    has_bit(who.flags, 0)
+}
+
+pub fn is_affiliate(who: Counterparty) -> bool
+    ensures { λ r. ⌜ r ≡ affiliate who ⌝ }
+{
+    has_bit(who.flags, 1)
+}
+
+// Approved under A1(e) second limb.
+pub fn is_approved(who: Counterparty) -> bool
+    ensures { λ r. ⌜ r ≡ secondLimb who ⌝ }
+{
+    has_bit(who.flags, 2)
 }
 
 pub fn is_linked(a: Asset) -> bool

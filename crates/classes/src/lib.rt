@@ -4,22 +4,27 @@ ghost use mathlib.Core.Path.{_≡_};
 ghost use Prim.Native.Nat.{_<_};
 ghost use Rattle.columns.specs.Column.{classOf, wordAt, wordOf, termsAt, termsOf};
 
-// All of a counterparty that its columns and terms depend on.
+// All of a counterparty that its columns and terms depend on: its kind, whether it is graded, and its flags, each by its bit.
 fn class_of(who: Counterparty) -> u64
     requires { ⌜ who .flags < 8 ⌝ }
     ensures { λ r. ⌜ (r ≡ classOf who) × (r < 80) ⌝ }
 {
     let kind = who.kind;
     let n = book::kind_number(kind) as u64;
-    let flags = who.flags as u64;
-    16 * n + choice::amount(book::is_graded(who), 8, 0) + flags
+    16 * n
+        + choice::amount(book::is_graded(who), 8, 0)
+        + choice::amount(book::is_approved(who), 4, 0)
+        + choice::amount(book::is_affiliate(who), 2, 0)
+        + choice::one(book::is_related(who))
 }
 
+// The word of a class. Each eight are one kind, graded or not, by their flags: in turn not related and related, which only a life company's go by.
 fn word_at(class: u64) -> u64
     requires { ⌜ class < 80 ⌝ }
     ensures { λ r. ⌜ r ≡ wordAt class ⌝ }
 {
     match class {
+        // Other, not graded.
         0 => 68786585600,
         1 => 68786585600,
         2 => 68786585600,
@@ -28,6 +33,7 @@ fn word_at(class: u64) -> u64
         5 => 68786585600,
         6 => 68786585600,
         7 => 68786585600,
+        // Other, graded.
         8 => 72638703667266,
         9 => 72638703667266,
         10 => 72638703667266,
@@ -36,6 +42,7 @@ fn word_at(class: u64) -> u64
         13 => 72638703667266,
         14 => 72638703667266,
         15 => 72638703667266,
+        // A bank, not graded.
         16 => 18760484668416,
         17 => 18760484668416,
         18 => 18760484668416,
@@ -44,6 +51,7 @@ fn word_at(class: u64) -> u64
         21 => 18760484668416,
         22 => 18760484668416,
         23 => 18760484668416,
+        // A bank, graded.
         24 => 89131378426946,
         25 => 89131378426946,
         26 => 89131378426946,
@@ -52,6 +60,7 @@ fn word_at(class: u64) -> u64
         29 => 89131378426946,
         30 => 89131378426946,
         31 => 89131378426946,
+        // The home government, not graded.
         32 => 17660972630032,
         33 => 17660972630032,
         34 => 17660972630032,
@@ -60,6 +69,7 @@ fn word_at(class: u64) -> u64
         37 => 17660972630032,
         38 => 17660972630032,
         39 => 17660972630032,
+        // The home government, graded.
         40 => 88031866456144,
         41 => 88031866456144,
         42 => 88031866456144,
@@ -68,6 +78,7 @@ fn word_at(class: u64) -> u64
         45 => 88031866456144,
         46 => 88031866456144,
         47 => 88031866456144,
+        // A provincial government, not graded.
         48 => 12163426025472,
         49 => 12163426025472,
         50 => 12163426025472,
@@ -76,6 +87,7 @@ fn word_at(class: u64) -> u64
         53 => 12163426025472,
         54 => 12163426025472,
         55 => 12163426025472,
+        // A provincial government, graded.
         56 => 82534317754434,
         57 => 82534317754434,
         58 => 82534317754434,
@@ -84,6 +96,7 @@ fn word_at(class: u64) -> u64
         61 => 82534317754434,
         62 => 82534317754434,
         63 => 82534317754434,
+        // A life company, not graded.
         64 => 68786585600,
         65 => 68786586112,
         66 => 68786585600,
@@ -92,6 +105,7 @@ fn word_at(class: u64) -> u64
         69 => 68786586112,
         70 => 68786585600,
         71 => 68786586112,
+        // A life company, graded.
         72 => 354113680377922,
         73 => 354113680378370,
         74 => 354113680377922,
@@ -104,11 +118,13 @@ fn word_at(class: u64) -> u64
     }
 }
 
+// The terms of a class. Each eight by their flags: none, related, affiliate, both; then the same with approval under A1(e).
 fn terms_at(class: u64) -> u64
     requires { ⌜ class < 80 ⌝ }
     ensures { λ r. ⌜ r ≡ termsAt class ⌝ }
 {
     match class {
+        // Other, not graded.
         0 => 1173731330553520434,
         1 => 1173731330553520434,
         2 => 20809825946673458,
@@ -117,6 +133,7 @@ fn terms_at(class: u64) -> u64
         5 => 1173731330553520434,
         6 => 20809825946673458,
         7 => 20809825946673458,
+        // Other, graded.
         8 => 5779716380047298163,
         9 => 3473873370833604211,
         10 => 4626794878765587158,
@@ -125,6 +142,7 @@ fn terms_at(class: u64) -> u64
         13 => 3473873359749817641,
         14 => 4626794864356664617,
         15 => 2320951855142970665,
+        // A bank, not graded.
         16 => 1173731330553520434,
         17 => 1173731330553520434,
         18 => 20809825946673458,
@@ -133,6 +151,7 @@ fn terms_at(class: u64) -> u64
         21 => 1173731330553520434,
         22 => 20809825946673458,
         23 => 20809825946673458,
+        // A bank, graded.
         24 => 8085559389260992115,
         25 => 3473873370833604211,
         26 => 6932637887979281110,
@@ -141,6 +160,7 @@ fn terms_at(class: u64) -> u64
         29 => 3473873359749817641,
         30 => 6932637873570358569,
         31 => 2320951855142970665,
+        // The home government, not graded.
         32 => 1173731330553520434,
         33 => 1173731330553520434,
         34 => 20809825946673458,
@@ -149,6 +169,7 @@ fn terms_at(class: u64) -> u64
         37 => 1173731330553520434,
         38 => 20809825946673458,
         39 => 20809825946673458,
+        // The home government, graded.
         40 => 5779716380047298163,
         41 => 3473873370833604211,
         42 => 4626794878765587158,
@@ -157,6 +178,7 @@ fn terms_at(class: u64) -> u64
         45 => 3473873359749817641,
         46 => 4626794864356664617,
         47 => 2320951855142970665,
+        // A provincial government, not graded.
         48 => 1173731330553520434,
         49 => 1173731330553520434,
         50 => 20809825946673458,
@@ -165,6 +187,7 @@ fn terms_at(class: u64) -> u64
         53 => 1173731330553520434,
         54 => 20809825946673458,
         55 => 20809825946673458,
+        // A provincial government, graded.
         56 => 5779716380047298163,
         57 => 3473873370833604211,
         58 => 4626794878765587158,
@@ -173,6 +196,7 @@ fn terms_at(class: u64) -> u64
         61 => 3473873359749817641,
         62 => 4626794864356664617,
         63 => 2320951855142970665,
+        // A life company, not graded.
         64 => 1669509796831521,
         65 => 1669509796831521,
         66 => 1669509796831521,
@@ -181,6 +205,7 @@ fn terms_at(class: u64) -> u64
         69 => 1669509796831521,
         70 => 1669509796831521,
         71 => 1669509796831521,
+        // A life company, graded.
         72 => 4626794864356664617,
         73 => 2320951848492698723,
         74 => 4626794864356664617,

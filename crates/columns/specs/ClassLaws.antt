@@ -5,12 +5,15 @@ use mathlib.Core.Bool.{Bool, true, false}
 use mathlib.Core.Path.{_≡_, refl}
 use Prim.Native.Nat.{ℕ, _+_, _*_, _/_, _%_, _≤_, _<_}
 use native.Mathlib.Omega.{arith}
-use Rattle.words.specs.Words.{if_then_else_}
+use borrow.Author.Tests.{eqb-true}
+use Rattle.words.specs.Words.{_=?_, if_then_else_}
+use Rattle.words.specs.Below.{allBelow, below}
+use Rattle.wire.specs.Bytes.{bit}
 use Rattle.book.specs.declared.Kind.{Kind}
 use Rattle.book.specs.declared.Kind.the-variants.{Other, Bank, HomeGovernment, ProvincialGovernment, LifeCompany}
 use Rattle.book.specs.declared.Counterparty.{Counterparty}
 use Rattle.book.specs.Records.{kindOf}
-use Rattle.book.specs.Fields.{kindNumber, graded}
+use Rattle.book.specs.Fields.{kindNumber, graded, related, affiliate, secondLimb}
 use Rattle.columns.specs.Column.{classOf}
 
 abbrev pub ofClass : ℕ → Counterparty
@@ -34,6 +37,14 @@ graded-back : (t : Bool) (c : ℕ) → c / 8 % 2 ≡ (if t then 1 else 0) → gr
 graded-back true c e = rw e
 graded-back false c e = rw e
 
+-- a counterparty's three flags, put together again
+flags-computed : allBelow 8 (λ f. (if bit 2 f then 4 else 0) + (if bit 1 f then 2 else 0) + (if bit 0 f then 1 else 0) =? f) ≡ true
+unfolding allBelow
+flags-computed = refl
+
+flags-back : (f : ℕ) → f < 8 → (if bit 2 f then 4 else 0) + (if bit 1 f then 2 else 0) + (if bit 0 f then 1 else 0) ≡ f
+flags-back f h = eqb-true _ _ (below 8 (λ f. (if bit 2 f then 4 else 0) + (if bit 1 f then 2 else 0) + (if bit 0 f then 1 else 0) =? f) flags-computed f h)
+
 -- the parts of a class
 record Parts (k : ℕ) (t : Bool) (f c : ℕ) : Type 0 where
   kind : c / 16 ≡ k
@@ -48,7 +59,10 @@ parts k false f h = record { kind = omega arith; grade = omega arith; flag = ome
 module _ (who : Counterparty) (h : who .flags < 8) where
   say : Parts (kindNumber (who .kind)) (graded who) (who .flags) (classOf who)
   unfolding classOf
-  say = parts (kindNumber (who .kind)) (graded who) (who .flags) h
+  say =
+      let k = 16 * kindNumber (who .kind) + (if graded who then 8 else 0) in
+      let whole : classOf who ≡ k + who .flags = omega (arith, flags-back (who .flags) h) in
+      rw whole (parts (kindNumber (who .kind)) (graded who) (who .flags) h)
 
   pub class-le : classOf who < 80
   class-le = omega (arith, say .small, kind-le (who .kind))

@@ -17,7 +17,7 @@ use Rattle.words.specs.Words.{_≤?_, _=?_, if_then_else_}
 use Rattle.cascade.specs.Cascade.{tiers}
 use Rattle.book.specs.declared.Kind.the-variants.{Bank, LifeCompany}
 use Rattle.book.specs.declared.Counterparty.{Counterparty}
-use Rattle.book.specs.Fields.{kindNumber, _is_, graded, related, affiliate}
+use Rattle.book.specs.Fields.{kindNumber, _is_, graded, related, affiliate, secondLimb}
 use Rattle.exposure.specs.declared.Exposure.{Exposure}
 use Rattle.exposure.specs.Tier.{tierBy}
 use Rattle.rows.specs.Rows.{columns, billColumn, a3Columns}
@@ -51,9 +51,14 @@ pub record Tiered (table : List ℕ) : Type 0 where
   pub size : length table ≡ columns
   pub each : (c : ℕ) → c < columns → getD table c 0 ≡ tierIn c
 
--- kind, whether graded, and flags
+-- kind, whether graded, and flag by flag
 unfoldable pub classOf : Counterparty → ℕ
-classOf who = 16 * kindNumber (who .kind) + (if graded who then 8 else 0) + who .flags
+classOf who =
+    16 * kindNumber (who .kind)
+    + (if graded who then 8 else 0)
+    + (if secondLimb who then 4 else 0)
+    + (if affiliate who then 2 else 0)
+    + (if related who then 1 else 0)
 
 -- digit n, the last being digit 0
 unfoldable pub digit : ℕ → ℕ → ℕ

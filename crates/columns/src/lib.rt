@@ -5,11 +5,11 @@ ghost use mathlib.Core.Path.{_≡_};
 ghost use Prim.Native.Nat.{_-_, _/_, _%_, _^_, _≤_, _<_};
 ghost use Rattle.columns.specs.Column.{digit, digitOf, ageOf, Tiered};
 
-// The last bits of byte n are five times the digit of form n (`digitOf`).
-const FORMS: u64 = 11167418289920;
+// The last six bits of byte n are five times the digit of form n (`digitOf`).
+const FORMS: u64 = 0x0A28_1E00_0F00;
 
 // The four bits from 4 n on are the digit of entry n / 4 at stage n % 4 of its months (`ageOf`).
-const AGES: u64 = 12215739472165273600;
+const AGES: u64 = 0xA987_0654_0321_0000;
 
 // The tier that each column is part of.
 pub fn tiers() -> [u16; COLUMNS]

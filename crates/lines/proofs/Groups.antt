@@ -14,11 +14,11 @@ use Rattle.wire.proofs.Stores.{stored}
 use Rattle.cascade.specs.Cascade.{tiers}
 use Rattle.rows.specs.Rows.{row}
 use Rattle.lines.specs.Table.{setOf}
-use Rattle.lines.specs.Listing.{entry, shown, allEntries, tried}
+use Rattle.lines.specs.Listing.{entry, allEntries, ranks, ofRank, shownBy, tried}
 use Rattle.cascade.specs.Promise.{Once}
-use Rattle.lines.proofs.Tries.{those-append, tried-same, tried-append}
-use Rattle.lines.proofs.Entries.{groupEntries, shown-row, row-ones}
-use Rattle.lines.proofs.Turn.{above}
+use Rattle.lines.proofs.Tries.{those-append, tried-append}
+use Rattle.lines.proofs.Entries.{row-ones}
+use Rattle.lines.proofs.Ranks.{group-are}
 
 -- the groups from k on
 abbrev pub numbers : ℕ → ℕ → List ℕ
@@ -59,26 +59,24 @@ pub none-tried : (test : ℕ → Bool) {es : List ℕ} (at : ℕ) (list : List �
 unfolding tried
 none-tried test at list e = rw e
 
--- a group: its row, its set of tiers, and the list before and after its entries are tried
-module _ (cells : List ℕ) (groups : ℕ) (ranking : List ℕ) (o : Once tiers ranking) (k : ℕ) (l : k < groups) {exposures : List ℕ} {set : ℕ} (e : exposures ≡ row cells k) (h : set ≡ setOf exposures) where
-  pub set-is : set ≡ setOf (row cells k)
-  set-is = rw e at h
+-- a group: its set of tiers, and the list before and after its entries are tried
+module _ (cells : List ℕ) (groups : ℕ) (ranking : List ℕ) (o : Once tiers ranking) (n : length ranking ≡ tiers) (k : ℕ) (l : k < groups) {set : ℕ} (h : set ≡ setOf (row cells k)) where
+  own-ones : length (those (shownBy cells ranking) (map (entry k) ranks)) ≡ ones set
+  own-ones =
+      sym (length-map (those (shownBy cells ranking) (map (entry k) ranks)) (ofRank ranking)) ∙ ap length (group-are ranking o n cells k)
+      ∙ row-ones ranking o cells k ∙ ap ones (sym h)
 
-  own-ones : length (groupEntries cells ranking k) ≡ ones set
-  own-ones = row-ones ranking o cells k ∙ ap ones (sym set-is)
-
-  pub count-step : length (those (shown cells) (later groups ranking k)) ≡ ones set + length (those (shown cells) (later groups ranking (k + 1)))
+  pub count-step : length (those (shownBy cells ranking) (later groups ranks k)) ≡ ones set + length (those (shownBy cells ranking) (later groups ranks (k + 1)))
   count-step =
-      rw (later-step groups ranking k l, those-append (shown cells) (map (entry k) ranking) (later groups ranking (k + 1)), length-append, own-ones)
+      rw (later-step groups ranks k l, those-append (shownBy cells ranking) (map (entry k) ranks) (later groups ranks (k + 1)), length-append, own-ones)
 
   pub list-step :
-      (n : ℕ) (list next : List ℕ) → next ≡ tried (above exposures) n (map (entry k) ranking) list
-      → tried (shown cells) n (later groups ranking k) list ≡ tried (shown cells) (n + ones set) (later groups ranking (k + 1)) next
-  list-step n list next q =
-      rw (later-step groups ranking k l)
-      (tried-append (shown cells) (map (entry k) ranking) (later groups ranking (k + 1)) n list
-      ∙ ap₂ (λ (m : ℕ) (r : List ℕ). tried (shown cells) (n + m) (later groups ranking (k + 1)) r) own-ones
-      (sym (q ∙ ap (λ (x : List ℕ). tried (above x) n (map (entry k) ranking) list) e ∙ tried-same (above (row cells k)) (shown cells) (map (entry k) ranking) n list (shown-row ranking (o .inside) cells k))))
+      (at : ℕ) (list next : List ℕ) → next ≡ tried (shownBy cells ranking) at (map (entry k) ranks) list
+      → tried (shownBy cells ranking) at (later groups ranks k) list ≡ tried (shownBy cells ranking) (at + ones set) (later groups ranks (k + 1)) next
+  list-step at list next q =
+      rw (later-step groups ranks k l)
+      (tried-append (shownBy cells ranking) (map (entry k) ranks) (later groups ranks (k + 1)) at list
+      ∙ ap₂ (λ (m : ℕ) (r : List ℕ). tried (shownBy cells ranking) (at + m) (later groups ranks (k + 1)) r) own-ones (sym q))
 
 -- ---- the sets of the groups' tiers
 

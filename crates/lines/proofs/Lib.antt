@@ -1,5 +1,6 @@
 pub mod Tries
 pub mod Entries
+pub mod Ranks
 pub mod Along
 pub mod Among
 pub mod Heads

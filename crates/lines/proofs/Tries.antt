@@ -71,12 +71,6 @@ each-all P Q g f (k ∷ ks) h = all-append P (g k) (eachOf g ks) (f k (h .0)) (e
 
 -- ---- tried
 
-pub tried-same :
-    (test other : ℕ → Bool) (es : List ℕ) (at : ℕ) (l : List ℕ) → All (λ e. test e ≡ other e) es → tried test at es l ≡ tried other at es l
-unfolding tried
-tried-same test other [] at l h = refl
-tried-same test other (e ∷ es) at l h = rw (h .0) (tried-same test other es (if other e then at + 1 else at) (set l at e) (h .1))
-
 module _ (test : ℕ → Bool) where
   pub tried-long : (es : List ℕ) (at : ℕ) (l : List ℕ) → length (tried test at es l) ≡ length l
   unfolding tried

@@ -2,11 +2,12 @@
 --   entry groupIn tierIn   the entry of a group and a tier, and these of an entry
 --   exposureIn shown       the exposure of an entry, and whether it has a line
 --   allEntries entriesOf   the entries of all tiers of the groups, and those that have a line
+--   ranks ofRank shownBy   entries by rank in the place of the tier; the entry of the tier of that rank, and whether that has a line
 --   tried                  a list, where entries are put at the place reached
 --   Source                 what the figures of a line are taken from
 --   entryLine              the line of an entry, by what stands before it
 --   before linesAlong      what stands before an entry, and the lines along a list of entries
---   noGroup listedLines    the lines of a list's first entries, before which nothing stands
+--   noGroup entriesIn listedLines   the entries of a list's first entries by rank, and their lines, before which nothing stands
 use mathlib.Core.Bool.{Bool}
 use mathlib.Core.List.{List, [], _∷_, map}
 use Prim.Native.Nat.{ℕ, _+_, _*_, _/_, _%_}
@@ -41,20 +42,31 @@ allEntries groups ranking = eachOf (λ k. map (entry k) ranking) (countFrom 0 gr
 abbrev pub entriesOf : List ℕ → ℕ → List ℕ → List ℕ
 entriesOf cells groups ranking = those (shown cells) (allEntries groups ranking)
 
+-- all ranks; a list of entries by rank has `entry k i` for the tier of rank i of group number k
+abbrev pub ranks : List ℕ
+ranks = countFrom 0 tiers
+
+abbrev pub ofRank : List ℕ → ℕ → ℕ
+ofRank ranking e = entry (groupIn e) (getD ranking (tierIn e) 0)
+
+abbrev pub shownBy : List ℕ → List ℕ → ℕ → Bool
+shownBy cells ranking e = shown cells (ofRank ranking e)
+
 -- each entry is put at the place reached, which moves on behind those that pass the test; the others are overwritten
 unfoldable pub tried : (ℕ → Bool) → ℕ → List ℕ → List ℕ → List ℕ
 tried test at [] list = list
 tried test at (e ∷ es) list = tried test (if test e then at + 1 else at) es (set list at e)
 
--- a table: limits by tier, the cells, the sets of the groups' tiers and their top places
+-- a table: limits by tier, the tiers by rank, the cells, the sets of the groups' tiers and their top places
 pub record Source : Type 0 where
   pub limits : List ℕ
+  pub ranking : List ℕ
   pub cells : List ℕ
   pub sets : List ℕ
   pub heads : List ℕ
 
-abbrev pub source : (limits cells sets heads : List ℕ) → Source
-source limits cells sets heads = record { limits = limits; cells = cells; sets = sets; heads = heads }
+abbrev pub source : (limits ranking cells sets heads : List ℕ) → Source
+source limits ranking cells sets heads = record { limits = limits; ranking = ranking; cells = cells; sets = sets; heads = heads }
 
 -- the line of an entry, where s stands before it
 unfoldable pub entryLine : Source → ℕ → ℕ → Line
@@ -84,6 +96,10 @@ linesAlong S last s (e ∷ es) =
 abbrev pub noGroup : ℕ
 noGroup = 65535
 
--- the lines of the first n entries of a list
+-- the first n entries of a list by rank, by tier
+abbrev pub entriesIn : Source → List ℕ → ℕ → List ℕ
+entriesIn S list n = map (ofRank (S .ranking)) (take n list)
+
+-- and their lines
 abbrev pub listedLines : Source → List ℕ → ℕ → List Line
-listedLines S list n = linesAlong S noGroup 0 (take n list)
+listedLines S list n = linesAlong S noGroup 0 (entriesIn S list n)

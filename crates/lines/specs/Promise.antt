@@ -21,7 +21,7 @@ use Rattle.figures.specs.declared.Figures.{Figures}
 use Rattle.figures.specs.Report.{headSize, lineSize, linesOf, report}
 use Rattle.rows.specs.Rows.{mostGroups, columns, row}
 use Rattle.lines.specs.Table.{setOf, Heads, tableFund}
-use Rattle.lines.specs.Listing.{groupIn, tierIn, exposureIn, shown, allEntries, entriesOf, tried, Source}
+use Rattle.lines.specs.Listing.{groupIn, tierIn, exposureIn, allEntries, entriesOf, ranks, shownBy, tried, Source, entriesIn}
 
 -- a row to each group, an entry of sets to each, and room for an entry to each tier
 pub record Listable (cells : List ℕ) (groups : ℕ) (ranking sets list : List ℕ) : Type 0 where
@@ -38,7 +38,7 @@ pub record Listed (cells : List ℕ) (groups : ℕ) (ranking sets₀ sets list�
   pub count : n ≡ length (entriesOf cells groups ranking)
   pub few : n ≤ tiers * groups
   pub tierSets : sets ≡ placed sets₀ 0 (map (λ k. setOf (row cells k)) (countFrom 0 groups))
-  pub entries : list ≡ tried (shown cells) 0 (allEntries groups ranking) list₀
+  pub entries : list ≡ tried (shownBy cells ranking) 0 (allEntries groups ranks) list₀
 
 -- all exposures of the groups in the tiers
 abbrev pub allExposures : List ℕ → ℕ → ℕ
@@ -53,22 +53,24 @@ pub record Inside (S : Source) (e : ℕ) : Type 0 where
 
 -- the first n entries of a list, of amounts that can be added up, and room for their lines
 pub record Entries (S : Source) (list : List ℕ) (n room : ℕ) : Type 0 where
+  pub ranked : Once tiers (S .ranking)
   pub long : n ≤ length list
-  pub inside : All (Inside S) (take n list)
-  pub amounts : sumOf (exposureIn (S .cells)) (take n list) ≤ 900 * M
+  pub inside : All (Inside S) (entriesIn S list n)
+  pub amounts : sumOf (exposureIn (S .cells)) (entriesIn S list n) ≤ 900 * M
   pub fits : headSize + lineSize * n ≤ room
 
 -- the groups' sets of tiers, and the entries of the lines by rank, in an order along which the limits do not fall.
 -- All exposures are parts of the nets of "N ≤ 900" assets, "each one read at most M".
 pub record Table (order : ℕ → ℕ → Bool) (S : Source) (list : List ℕ) (groups n : ℕ) : Type 0 where
   pub ordered : Ordered order (byTier (S .limits))
+  pub by-rank : S .ranking ≡ ranked order tiers
   pub few : groups ≤ mostGroups
   pub rows : columns * groups ≤ length (S .cells)
   pub places : groups ≤ length (S .sets)
   pub tops : groups ≤ length (S .heads)
   pub long : n ≤ length list
   pub each : (k : ℕ) → k < groups → getD (S .sets) k 0 ≡ setOf (row (S .cells) k)
-  pub entries : take n list ≡ entriesOf (S .cells) groups (ranked order tiers)
+  pub entries : entriesIn S list n ≡ entriesOf (S .cells) groups (ranked order tiers)
   pub amounts : allExposures (S .cells) groups ≤ 900 * M
 
 -- a table, the number of its lines, figures whose charge fits, and bytes enough

@@ -1,36 +1,31 @@
-// The list of a report's lines: the tiers that have one, group by group along the ranking; and how many there are.
+// The list of a report's lines: the ranks that have one, group by group; and how many there are.
 use cascade::TIERS;
+use rows::COLUMNS;
 ghost use mathlib.Core.Path.{_≡_};
 ghost use mathlib.Core.List.{map};
-ghost use Prim.Native.Nat.{_+_, _≤_, _<_};
+ghost use Prim.Native.Nat.{_+_, _*_, _≤_, _<_};
 ghost use lib.ListN.{length};
-ghost use Rattle.words.specs.Words.{_<?_};
-ghost use Rattle.cascade.specs.Cascade.{tiers, byTier};
+ghost use Rattle.cascade.specs.Cascade.{tiers};
 ghost use Rattle.cascade.specs.Promise.{Once};
-ghost use Rattle.rows.specs.Rows.{mostGroups};
+ghost use Rattle.rows.specs.Rows.{mostGroups, columns, row};
 ghost use Rattle.lines.specs.Table.{setOf};
-ghost use Rattle.lines.specs.Listing.{entry, tierIn, tried};
+ghost use Rattle.lines.specs.Listing.{entry, ranks, shownBy, tried};
 ghost use Rattle.lines.specs.Promise.{Listable, Listed};
 
-// The entries of group number k's lines (TIERS * k and the tier), put into list from `at` on along the ranking; the set of the group's tiers.
-// Every tier is put at the place reached, which moves on where the exposure is above 0: no branch on an exposure.
-fn list_group(
-    list: &mut [u16],
-    at: usize,
-    k: usize,
-    exposures: [u64; TIERS],
-    ranking: [usize; TIERS],
-) -> u16
-    requires { ⌜ (k < mostGroups) × (at + tiers ≤ length (now list)) × Once tiers ranking ⌝ }
-    ensures { λ r. ⌜ (r ≡ setOf exposures) × (now (list .exit) ≡ tried (λ e. 0 <? byTier exposures (tierIn e)) at (map (entry k) ranking) (now (list .entry))) ⌝ }
+// The entries of group number k's lines (TIERS * k and the rank), put into list from `at` on; the set of the group's tiers.
+// Every rank is put at the place reached, which moves on where the exposure is above 0: no branch on an exposure.
+fn list_group(list: &mut [u16], at: usize, k: usize, cells: &[u64], ranking: [usize; TIERS]) -> u16
+    requires { ⌜ (k < mostGroups) × (columns * (k + 1) ≤ length (now cells)) × (at + tiers ≤ length (now list)) × Once tiers ranking ⌝ }
+    ensures { λ r. ⌜ (r ≡ setOf (row (now (cells .entry)) k)) × (now (list .exit) ≡ tried (shownBy (now (cells .entry)) ranking) at (map (entry k) ranks) (now (list .entry))) ⌝ }
 {
+    let start = COLUMNS * k;
     let mut place = at;
     let mut set: u64 = 0;
     let mut i = 0;
     while i < TIERS {
         let t = ranking[i];
-        let some = choice::one(0 < exposures[t]);
-        list[place] = (TIERS * k + t) as u16;
+        let some = choice::one(0 < cells[start + t]);
+        list[place] = (TIERS * k + i) as u16;
         place += some as usize;
         set += some << (t as u64);
         i += 1;
@@ -52,8 +47,7 @@ pub fn list_lines(
     let mut lines: usize = 0;
     let mut k = 0;
     while k < groups {
-        let exposures = rows::row_of(cells, k);
-        let set = list_group(list, lines, k, exposures, ranking);
+        let set = list_group(list, lines, k, cells, ranking);
         sets[k] = set;
         lines += u16::count_ones(set) as usize;
         k += 1;

@@ -22,7 +22,7 @@ long n = length-replicate {A = ℕ} n 0
 pub zero-parties : (c n : ℕ) → c ≤ n → parties.Ready c (replicate (n + 1) 0) (replicate (n + 1) 0) (replicate (n + 1) 0) (replicate (n + 1) 0) (replicate (n + 1) 0)
 zero-parties c n h =
     let l : c < length (replicate {A = ℕ} (n + 1) 0) = omega (arith, long (n + 1)) in
-    record { words-size = l; terms-size = l; tops-size = l; rows-size = l; heads-size = l; nobody = at-zeros (n + 1) 0 }
+    record { words-size = l; terms-size = l; tops-blank = record { size = l; zeros = λ p _. at-zeros (n + 1) p }; rows-size = l; heads-size = l }
 
 -- for those over at most n assets and k mitigants, with at most c counterparties
 pub zero-lent : (b : List ℕ) (c n k : ℕ) → C b ≤ c → N b ≤ n → K b ≤ k → Lent b (replicate (k + 2) 0) (replicate (n + 1) 0) (replicate (c + 1) 0) (replicate (n + 1) 0) (replicate (n + 1) 0) (replicate (k + 1) 0)

@@ -6,7 +6,7 @@
 --   headed-length headed-next         the table of tops
 --   Head head-is                      what stands in it under the number of a group
 --   head-at head-row heads-rise       a top stands under its number; its row; tops in book order
---   known-of parties-of               what filled tables hold, place by place
+--   parties-of                        what filled tables hold, place by place
 use mathlib.Core.Bool.{Bool, true, false}
 use mathlib.Core.List.{List}
 use mathlib.Core.Path.{_≡_, refl, _∙_}
@@ -19,12 +19,11 @@ use lib.Seq.{getD-set-same, getD-set-other}
 use borrow.Author.Tests.{eqb-true, eqb-false, eq-eqb, ltb-true, ltb-false}
 use Rattle.words.specs.Words.{_=?_, if_then_else_}
 use Rattle.words.specs.Choice.{by-test, if-le}
-use Rattle.words.specs.Tables.{filled, filled-length, filled-at, filled-past}
+use Rattle.words.specs.Tables.{filled-length, filled-at}
 use Rattle.book.specs.declared.Counterparty.{Counterparty}
 use Rattle.book.specs.Records.{C, counterpartyAt}
 use Rattle.book.specs.Book.{parentOf, topIn, topOf}
 use Rattle.book.specs.TopLaws.{parent-lower, top-step, top-le, top-pos}
-use Rattle.groups.specs.Tops.{Known}
 use Rattle.rows.specs.Rows.{columns}
 use Rattle.parties.specs.Rows.{topsTo, rowOf, headed, wordsOf, termsAt, Parties, Ready, Filled}
 
@@ -166,18 +165,6 @@ module _ (b t₀ : List ℕ) where
             absurd (omega (arith, rise b (headOf k - 1) (headOf j - 1) (omega arith), x .number, y .number))
 
 -- ---- the tables
-
-pub known-of : (b t₀ : List ℕ) (n : ℕ) → n < length t₀ → getD t₀ 0 0 ≡ 0 → Known b n (filled (topOf (counterpartyAt b)) n t₀)
-known-of b t₀ n h e = record {
-  size = omega (arith, filled-length (topOf (counterpartyAt b)) n t₀);
-  each = λ p g. by p g (eqb p 0) refl;
-}
-  where
-    by : (p : ℕ) → p ≤ n → (s : Bool) → eqb p 0 ≡ s → getD (filled (topOf (counterpartyAt b)) n t₀) p 0 ≡ topOf (counterpartyAt b) p
-    by p g true s =
-        let d = eqb-true p 0 s in
-        filled-past (topOf (counterpartyAt b)) n t₀ p (λ l. absurd (omega arith)) ∙ rw d (omega (arith, top-le (counterpartyAt b) 0))
-    by p g false s = filled-at (topOf (counterpartyAt b)) n t₀ h p (pos-of-ne-zero (eqb-false p 0 s)) g
 
 pub parties-of : {b words₀ terms₀ tops₀ rows₀ heads₀ words terms tops rows heads : List ℕ} {groups : ℕ} → Ready (C b) words₀ terms₀ tops₀ rows₀ heads₀ → Filled b (C b) words₀ terms₀ tops₀ rows₀ heads₀ words terms tops rows heads groups → Parties b words terms rows
 parties-of {b} {words₀} {terms₀} {tops₀} {rows₀} r f = record {

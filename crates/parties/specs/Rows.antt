@@ -13,6 +13,7 @@ use Rattle.words.specs.Words.{_=?_, if_then_else_}
 use Rattle.words.specs.Tables.{filled}
 use Rattle.book.specs.Records.{C, counterpartyAt}
 use Rattle.book.specs.Book.{parentOf, topOf}
+use Rattle.groups.specs.Tops.{Blank}
 use Rattle.rows.specs.Rows.{columns}
 use Rattle.columns.specs.Column.{wordOf, termsOf}
 
@@ -43,14 +44,13 @@ pub record Parties (b words terms rows : List ℕ) : Type 0 where
   pub term : (p : ℕ) → 0 < p → p ≤ C b → getD terms p 0 ≡ termsAt b p
   pub row : (p : ℕ) → 0 < p → p ≤ C b → getD rows p 0 ≡ rowOf b p
 
--- room for places 1 to c, and nobody at place 0 of the topmost parents
+-- room for places 1 to c, and no topmost parent found
 pub record Ready (c : ℕ) (words terms tops rows heads : List ℕ) : Type 0 where
   pub words-size : c < length words
   pub terms-size : c < length terms
-  pub tops-size : c < length tops
+  pub tops-blank : Blank c tops
   pub rows-size : c < length rows
   pub heads-size : c < length heads
-  pub nobody : getD tops 0 0 ≡ 0
 
 -- the tables filled at the places 1 to `known`, and the number of groups
 pub record Filled (b : List ℕ) (known : ℕ) (words₀ terms₀ tops₀ rows₀ heads₀ words terms tops rows heads : List ℕ) (groups : ℕ) : Type 0 where

@@ -1,4 +1,4 @@
-// The pass over the counterparties.
+// The passes over the counterparties: their topmost parents from the last place down, then all that goes by place from the first up.
 use rows::COLUMNS;
 ghost use mathlib.Core.Path.{_≡_};
 ghost use Rattle.book.specs.Records.{C};
@@ -19,21 +19,20 @@ pub fn fill(
     requires { ⌜ (Accepted (now b)) × (c ≡ C (now b)) × (Ready c (now words) (now terms) (now tops) (now rows) (now heads)) ⌝ }
     ensures { λ r. ⌜ Filled (now (b .entry)) c (now (words .entry)) (now (terms .entry)) (now (tops .entry)) (now (rows .entry)) (now (heads .entry)) (now (words .exit)) (now (terms .exit)) (now (tops .exit)) (now (rows .exit)) (now (heads .exit)) r ⌝ }
 {
+    groups::find_tops(b, c, tops);
     let mut groups = 0;
     let mut place = 1;
     while place <= c {
         let who = book::counterparty_at(b, place);
-        let up = who.parent as usize;
-        let above = groups::top_of(b, tops, place - 1, up);
-        let shared = rows[above as usize];
+        let alone = who.parent == 0;
+        let top = tops[place] as usize;
+        let shared = rows[top];
         let fresh = (COLUMNS * groups) as u16;
-        let own = place as u16;
         words[place] = classes::word_of(who);
         terms[place] = classes::terms_of(who);
-        tops[place] = choice::short(up == 0, own, above);
-        rows[place] = choice::short(up == 0, fresh, shared);
-        heads[groups] = own;
-        groups += choice::one(up == 0) as usize;
+        rows[place] = choice::short(alone, fresh, shared);
+        heads[groups] = place as u16;
+        groups += choice::one(alone) as usize;
         place += 1;
     }
     groups

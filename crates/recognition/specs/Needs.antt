@@ -1,4 +1,5 @@
 -- Recognition by a table: a number for each flags of a mitigant, whose bit 8 * form + 4 * (1 for reinsurance) + trust says whether it counts.
+--   flags-back       the flags put together again, bit by bit
 --   needsAt          the number
 --   recognised-is    its bits are `recognised`
 use mathlib.Core.Bool.{Bool, true, not, _&&_, _||_, Bool·beq}
@@ -7,7 +8,7 @@ use mathlib.Core.Path.{_≡_, refl}
 use Prim.Native.Nat.{ℕ, _+_, _*_, _<_}
 use native.Mathlib.Omega.{arith}
 use lib.ListN.{getD}
-use borrow.Author.Tests.{ne-eqb}
+use borrow.Author.Tests.{eqb-true, ne-eqb}
 use Rattle.words.specs.Words.{_≤?_, _=?_, if_then_else_}
 use Rattle.words.specs.Below.{allBelow, below, allTruths, at-truth}
 use Rattle.wire.specs.Bytes.{bit}
@@ -19,6 +20,16 @@ use Rattle.book.specs.Fields.{_is_, graded, related, reinsurance}
 use Rattle.exposure.specs.Parts.{goodCollateral, goodGuarantee, recognised}
 use Rattle.columns.specs.Column.{trustOf}
 use Rattle.columns.specs.ColumnLaws.{beq-true}
+
+abbrev bits : ℕ → ℕ
+bits f = (if bit 0 f then 1 else 0) + (if bit 1 f then 2 else 0) + (if bit 2 f then 4 else 0) + (if bit 3 f then 8 else 0) + (if bit 4 f then 16 else 0)
+
+bits-computed : allBelow 32 (λ f. bits f =? f) ≡ true
+unfolding allBelow
+bits-computed = refl
+
+pub flags-back : (f : ℕ) → f < 32 → bits f ≡ f
+flags-back f h = eqb-true _ _ (below 32 (λ f. bits f =? f) bits-computed f h)
 
 unfoldable pub needsAt : ℕ → ℕ
 needsAt flags = getD (

@@ -150,15 +150,15 @@ module _ {b heads : List ℕ} (H : Headed b heads) {groups : ℕ} (eg : groups �
         pub lines-few : Accepted b → n ≤ tiers * mostGroups
         lines-few acc = omega (arith, l .few, tops-le b (C b), acc .counterparties)
 
-        table : Accepted b → Room groups sets₀ list₀ → length sets ≡ length sets₀ → Table ranks (source (r .limits) cells sets heads) list groups n
-        table acc q size = listed-table ranks (source (r .limits) cells sets heads) ranks-ordered (rw (d .ranking) at (listable acc q)) (rw (d .ranking) at l) size heads-long (amounts acc)
+        table : Accepted b → Room groups sets₀ list₀ → length sets ≡ length sets₀ → Table ranks (source (r .limits) (r .ranking) cells sets heads) list groups n
+        table acc q size = listed-table ranks (source (r .limits) (r .ranking) cells sets heads) ranks-ordered (d .ranking) (rw (d .ranking) at (listable acc q)) (rw (d .ranking) at l) size heads-long (amounts acc)
 
-        pub ready : Accepted b → Room groups sets₀ list₀ → length sets ≡ length sets₀ → {room : ℕ} → headSize + lineSize * n ≤ room → Ready (source (r .limits) cells sets heads) list n (r .figures) room
+        pub ready : Accepted b → Room groups sets₀ list₀ → length sets ≡ length sets₀ → {room : ℕ} → headSize + lineSize * n ≤ room → Ready (source (r .limits) (r .ranking) cells sets heads) list n (r .figures) room
         ready acc q size h = record { order = ranks; groups = groups; places = C b; table = table acc q size; heads = heads-are; a3 = d .a3-within; fits = h }
 
         pub answered :
             Passed schedule b → fundCheck (bookOf b) ≡ Fine → Accepted b → Room groups sets₀ list₀ → length sets ≡ length sets₀ → {before after : List ℕ} → headSize + lineSize * n ≤ length before
-            → Reported (source (r .limits) cells sets heads) list n (r .figures) before after → Answered schedule b before after (Written (headSize + lineSize * n))
+            → Reported (source (r .limits) (r .ranking) cells sets heads) list n (r .figures) before after → Answered schedule b before after (Written (headSize + lineSize * n))
         answered p f acc q size {before} {after} h w =
             let put : after ≡ report written ++ drop (length (report written)) before = w ranks (C b) groups heads-are (table acc q size) in
             let a : after ≡ reportOf schedule b ++ drop (headSize + lineSize * n) before = put ∙ ap₂ (λ (x : List ℕ) (k : ℕ). x ++ drop k before) report-is (ap length report-is ∙ size-is) in

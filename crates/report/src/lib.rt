@@ -36,6 +36,16 @@ pub fn finish(
     if report.len() < size {
         return Answer::Refused(Refusal::BufferShort);
     }
-    writing::put_report(report, limits, cells, sets, heads, list, n, figures);
+    writing::put_report(
+        report,
+        limits,
+        ranking,
+        cells,
+        sets,
+        heads,
+        list,
+        n,
+        figures,
+    );
     Answer::Written(size)
 }

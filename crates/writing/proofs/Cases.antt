@@ -6,19 +6,29 @@ use mathlib.Core.List.{List, [], _∷_, _++_}
 use Prim.Native.Nat.{ℕ}
 use lib.ListN.{replicate}
 use Rattle.words.specs.Words.{sum, eachOf, those, countFrom}
-use Rattle.cascade.specs.Cascade.{tiers, byTier, byLimit, ranks, insert, ranked, next, standing, left, excess, excessSum}
+use Rattle.cascade.specs.Cascade.{tiers, byTier, byLimit, ranks as cascade-ranks, insert, ranked, next, standing, left, excess, excessSum}
 use Rattle.figures.specs.declared.Line.{Line}
 use Rattle.figures.specs.declared.Figures.{Figures}
 use Rattle.figures.specs.Report.{lineBytes, tierSet, lineOf, cellLines, linesOf, groupExcess, charge}
 use Rattle.rows.specs.Rows.{row}
 use Rattle.lines.specs.Table.{setOf, tableFund}
-use Rattle.lines.specs.Listing.{shown, allEntries, entriesOf, tried, Source, entryLine, linesAlong, listedLines}
+use Rattle.lines.specs.Listing.{allEntries, entriesOf, ranks, shownBy, tried, Source, entryLine, linesAlong, listedLines}
 use Rattle.layout.specs.Put.{LinePut}
+
+abbrev limits : List ℕ
+limits = 250000000 ∷ 250000000 ∷ 500000000 ∷ 500000000 ∷ 425000000 ∷ 825000000 ∷ 1250000000 ∷ 850000000 ∷ 1650000000 ∷ 2500000000 ∷ 2500000000 ∷ 2500000000 ∷ 5000000000 ∷ 5000000000 ∷ 3300000000 ∷ 1700000000 ∷ []
+
+abbrev order : ℕ → ℕ → Bool
+order = byLimit (byTier limits)
+
+abbrev by-rank : List ℕ
+by-rank = ranked order tiers
 
 abbrev table : Source
 table =
     record {
-      limits = 250000000 ∷ 250000000 ∷ 500000000 ∷ 500000000 ∷ 425000000 ∷ 825000000 ∷ 1250000000 ∷ 850000000 ∷ 1650000000 ∷ 2500000000 ∷ 2500000000 ∷ 2500000000 ∷ 5000000000 ∷ 5000000000 ∷ 3300000000 ∷ 1700000000 ∷ [];
+      limits = limits;
+      ranking = by-rank;
       cells =
           0 ∷ 0 ∷ 0 ∷ 0 ∷ 0 ∷ 0 ∷ 0 ∷ 0 ∷ 0 ∷ 0 ∷ 0 ∷ 0 ∷ 0 ∷ 0 ∷ 0 ∷ 0 ∷ 7 ∷ 9 ∷ 9 ∷ 9 ∷ 9 ∷ 9 ∷ 9
           ∷ 300000000 ∷ 0 ∷ 300000000 ∷ 0 ∷ 0 ∷ 0 ∷ 0 ∷ 0 ∷ 0 ∷ 0 ∷ 0 ∷ 0 ∷ 0 ∷ 0 ∷ 0 ∷ 0 ∷ 0 ∷ 9 ∷ 9 ∷ 9 ∷ 9 ∷ 9 ∷ 9 ∷ [];
@@ -28,12 +38,6 @@ table =
 
 abbrev figures : Figures
 figures = record { vaf = 10000000000; «stressed_vaf» = 10000000000; «all_net» = 600000007; unlimited = 7; «a3_sum» = 3; «a3_limit» = 1 }
-
-abbrev order : ℕ → ℕ → Bool
-order = byLimit (byTier (table .limits))
-
-abbrev by-rank : List ℕ
-by-rank = ranked order tiers
 
 abbrev first : Line
 first = record { top = 3; tier = 0; tiers = 5; exposure = 300000000; limit = 250000000; left = 250000000; excess = 50000000 }
@@ -45,17 +49,18 @@ abbrev lines : List Line
 lines = first ∷ second ∷ []
 
 t2-lines : linesOf (tableFund order (table .limits) (table .cells) (table .heads) 4 2 figures) ≡ lines
-unfolding ranks insert ranked next standing left excess sum eachOf countFrom tierSet lineOf cellLines row tableFund
+unfolding cascade-ranks insert ranked next standing left excess sum eachOf countFrom tierSet lineOf cellLines row tableFund
 t2-lines = refl
 
-t2-listed : (entriesOf (table .cells) 2 by-rank ≡ 16 ∷ 18 ∷ []) × (tried (shown (table .cells)) 0 (allEntries 2 by-rank) (1 ∷ 2 ∷ 3 ∷ 4 ∷ []) ≡ 16 ∷ 18 ∷ 29 ∷ 4 ∷ []) × (listedLines table (16 ∷ 18 ∷ 29 ∷ 4 ∷ []) 2 ≡ lines)
-unfolding ranks insert ranked next eachOf those countFrom tried entryLine linesAlong
+-- tier 2 is of rank 3
+t2-listed : (entriesOf (table .cells) 2 by-rank ≡ 16 ∷ 18 ∷ []) × (tried (shownBy (table .cells) by-rank) 0 (allEntries 2 ranks) (1 ∷ 2 ∷ 3 ∷ 4 ∷ []) ≡ 16 ∷ 19 ∷ 31 ∷ 4 ∷ []) × (listedLines table (16 ∷ 19 ∷ 31 ∷ 4 ∷ []) 2 ≡ lines)
+unfolding cascade-ranks insert ranked next eachOf those countFrom tried entryLine linesAlong
 t2-listed = (refl, refl, refl)
 
 t2-charge :
     (setOf (row (table .cells) 1) ≡ 5) × (groupExcess (tableFund order (table .limits) (table .cells) (table .heads) 4 2 figures) ≡ 100000000)
     × (charge (tableFund order (table .limits) (table .cells) (table .heads) 4 2 figures) ≡ 100000002)
-unfolding ranks insert ranked next standing left excess excessSum sum groupExcess charge row setOf tableFund
+unfolding cascade-ranks insert ranked next standing left excess excessSum sum groupExcess charge row setOf tableFund
 t2-charge = (refl, refl, refl)
 
 -- among bytes of 7: those before the line and the one behind it stay, its own are put over the others, the zeros too

@@ -1,12 +1,12 @@
 -- The report of a table that is listed: its lines along the list, and the header before them.
-use mathlib.Core.Path.{_≡_, ap, sym, _∙_}
+use mathlib.Core.Path.{_≡_, ap, ap₂, sym, _∙_}
 use mathlib.Core.Bool.{Bool}
-use mathlib.Core.List.{List, _++_}
+use mathlib.Core.List.{List, _++_, map}
 use Prim.Native.Nat.{ℕ, _+_, _*_, _-_, _≤_}
 use native.Mathlib.Omega.{arith}
 use lib.ListN.{length, take, drop}
-use lib.Seq.{length-take-le}
-use Rattle.words.specs.Words.{sumOf}
+use Rattle.words.specs.Words.{sumOf, those, countFrom}
+use Rattle.words.specs.Sums.{length-count}
 use Rattle.wire.specs.Bytes.{M, placed}
 use Rattle.wire.proofs.Laws.{placed-before}
 use Rattle.cascade.specs.Cascade.{tiers, byTier, ranked}
@@ -22,14 +22,15 @@ use Rattle.figures.proofs.Least.{excess-lines}
 use Rattle.figures.proofs.Written.{head-long}
 use Rattle.figures.proofs.Size.{joined-long}
 use Rattle.lines.specs.Table.{Heads, tableFund}
-use Rattle.lines.specs.Listing.{exposureIn, shown, allEntries, entriesOf, tried, Source, linesAlong, noGroup, listedLines}
+use Rattle.lines.specs.Listing.{exposureIn, allEntries, ranks, ofRank, shownBy, tried, Source, linesAlong, noGroup, entriesIn, listedLines}
 use Rattle.lines.specs.Promise.{Listable, Listed, Entries, Table, allExposures}
 use Rattle.lines.proofs.Tries.{tried-long, tried-first}
 use Rattle.lines.proofs.Entries.{all-long, all-inside, entries-few, entries-sum}
 use Rattle.lines.proofs.Along.{along-long, along-within}
 use Rattle.lines.proofs.Heads.{lines-along}
 use Rattle.lines.proofs.Groups.{set-each}
-use Rattle.writing.proofs.Writing.{excesses}
+use Rattle.writing.proofs.Writing.{excesses, entries-long}
+use Rattle.lines.proofs.Ranks.{entries-are, entries-many}
 
 -- the header of n lines whose excesses add up to x, where the A3 sum is so much above the A3 limit
 abbrev pub headWith : Figures → (n x over : ℕ) → Head
@@ -53,12 +54,13 @@ module _ {order : ℕ → ℕ → Bool} {S : Source} {list : List ℕ} {groups n
   abbrev pub along : List Line
   along = listedLines S list n
 
-  amounts : sumOf (exposureIn (S .cells)) (take n list) ≤ 900 * M
+  amounts : sumOf (exposureIn (S .cells)) (entriesIn S list n) ≤ 900 * M
   amounts = rw (t .entries) (omega (arith, t .amounts, entries-sum by-rank (ranked-once order tiers) (S .cells) groups))
 
   pub table-entries : (room : ℕ) → headSize + lineSize * n ≤ room → Entries S list n room
   table-entries room h =
       record {
+        ranked = rw (t .by-rank) (ranked-once order tiers);
         long = t .long;
         inside = rw (t .entries) (all-inside by-rank (ranked-only order tiers) S groups (t .rows) (t .places) (t .tops));
         amounts = amounts;
@@ -67,10 +69,10 @@ module _ {order : ℕ → ℕ → Bool} {S : Source} {list : List ℕ} {groups n
 
   pub lines-few : n ≤ tiers * mostGroups
   lines-few =
-      omega (arith, length-take-le n list (t .long), ap length (t .entries), t .few, entries-few by-rank (ranked-once order tiers) (S .cells) groups (length-ranked order tiers))
+      omega (arith, entries-long S list n (t .long), ap length (t .entries), t .few, entries-few by-rank (ranked-once order tiers) (S .cells) groups (length-ranked order tiers))
 
   pub excess-few : excesses along ≤ 900 * M
-  excess-few = omega (arith, amounts, along-within S (take n list) noGroup 0)
+  excess-few = omega (arith, amounts, along-within S (entriesIn S list n) noGroup 0)
 
   module _ {places : ℕ} (H : Heads (S .heads) places groups) (f : Figures) where
     abbrev F : Fund
@@ -80,7 +82,7 @@ module _ {order : ℕ → ℕ → Bool} {S : Source} {list : List ℕ} {groups n
     lines-are = ap (linesAlong S noGroup 0) (t .entries) ∙ sym (lines-along order S (t .ordered) H (t .few) (t .each) f)
 
     pub count-is : n ≡ length (linesOf F)
-    count-is = sym (length-take-le n list (t .long)) ∙ sym (along-long S (take n list) noGroup 0) ∙ ap length lines-are
+    count-is = sym (entries-long S list n (t .long)) ∙ sym (along-long S (entriesIn S list n) noGroup 0) ∙ ap length lines-are
 
     head-is : (x over : ℕ) → x ≡ excesses along → over ≡ f .«a3_sum» - f .«a3_limit» → headWith f n x over ≡ headOf F
     unfolding headOf charge tableFund
@@ -105,21 +107,26 @@ module _ {order : ℕ → ℕ → Bool} {S : Source} {list : List ℕ} {groups n
 
 -- a table that `list_lines` has listed by rank
 pub listed-table :
-    (order : ℕ → ℕ → Bool) (S : Source) → Ordered order (byTier (S .limits)) → {groups : ℕ} {sets₀ list₀ list : List ℕ} {n : ℕ}
+    (order : ℕ → ℕ → Bool) (S : Source) → Ordered order (byTier (S .limits)) → S .ranking ≡ ranked order tiers → {groups : ℕ} {sets₀ list₀ list : List ℕ} {n : ℕ}
     → Listable (S .cells) groups (ranked order tiers) sets₀ list₀ → Listed (S .cells) groups (ranked order tiers) sets₀ (S .sets) list₀ list n
     → length (S .sets) ≡ length sets₀ → groups ≤ length (S .heads) → allExposures (S .cells) groups ≤ 900 * M → Table order S list groups n
-listed-table order S o {groups} {sets₀} {list₀} {list} {n} a l size tops few =
+listed-table order S o q {groups} {sets₀} {list₀} {list} {n} a l size tops few =
     let by-rank = ranked order tiers in
-    let z : 0 + length (entriesOf (S .cells) groups by-rank) ≡ n = omega (arith, l .count) in
-    let all : length (allEntries groups by-rank) ≡ tiers * groups = all-long by-rank (length-ranked order tiers) groups in
+    let long = length-ranked order tiers in
+    let shows = shownBy (S .cells) by-rank in
+    let z : 0 + length (those shows (allEntries groups ranks)) ≡ n = omega (arith, l .count, entries-many by-rank (a .ranks) long (S .cells) groups) in
+    let all : length (allEntries groups ranks) ≡ tiers * groups = all-long ranks (length-count 0 tiers) groups in
+    let first : take n list ≡ those shows (allEntries groups ranks) =
+    ap (take n) (l .entries) ∙ ap (λ (k : ℕ). take k (tried shows 0 (allEntries groups ranks) list₀)) (sym z) ∙ tried-first shows (allEntries groups ranks) 0 list₀ (omega (arith, a .room)) in
     record {
       ordered = o;
+      by-rank = q;
       few = a .few;
       rows = a .rows;
       places = omega (arith, a .places);
       tops = tops;
-      long = omega (arith, ap length (l .entries), tried-long (shown (S .cells)) (allEntries groups by-rank) 0 list₀, l .few, a .room);
+      long = omega (arith, ap length (l .entries), tried-long shows (allEntries groups ranks) 0 list₀, l .few, a .room);
       each = set-each (S .cells) groups sets₀ (l .tierSets);
-      entries = ap (take n) (l .entries) ∙ ap (λ (k : ℕ). take k (tried (shown (S .cells)) 0 (allEntries groups by-rank) list₀)) (sym z) ∙ tried-first (shown (S .cells)) (allEntries groups by-rank) 0 list₀ (omega (arith, a .room));
+      entries = ap₂ (λ (r es : List ℕ). map (ofRank r) es) q first ∙ entries-are by-rank (a .ranks) long (S .cells) groups;
       amounts = few;
     }

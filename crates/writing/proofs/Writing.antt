@@ -1,12 +1,13 @@
 -- One turn of the writing of the lines: an entry's line is put, and the rest of the list is still to come.
-use mathlib.Core.Path.{_≡_}
+use mathlib.Core.Path.{_≡_, ap, _∙_}
 use mathlib.Core.List.{List, [], _∷_, _++_}
 use Prim.Native.Nat.{ℕ, _+_, _≤_, _<_}
 use native.Mathlib.Omega.{arith}
 use native.Mathlib.Numerals.{add-one}
-use lib.ListN.{length, take, drop, getD, drop-of-length-le}
+use lib.ListN.{length, take, drop, getD, drop-of-length-le, length-map}
 use lib.Seq.{drop-cons, getD-take, length-take-le}
 use Rattle.words.specs.Words.{sumOf, eachOf}
+use Rattle.words.specs.Sums.{all-map}
 use Rattle.cascade.specs.Cascade.{tiers, byTier, next}
 use Rattle.cascade.specs.Promise.{outcomeAt}
 use Rattle.cascade.specs.declared.Outcome.{Outcome}
@@ -14,13 +15,28 @@ use Rattle.cascade.proofs.Lists.{all-at}
 use Rattle.figures.specs.declared.Line.{Line}
 use Rattle.figures.specs.Report.{headSize, lineBytes, joined}
 use Rattle.figures.proofs.Size.{joined-long}
-use Rattle.lines.specs.Listing.{groupIn, tierIn, exposureIn, Source, before, entryLine, linesAlong}
+use Rattle.lines.specs.Listing.{groupIn, tierIn, exposureIn, ofRank, Source, source, before, entryLine, linesAlong, entriesIn}
 use Rattle.lines.specs.Promise.{Inside, Entries}
 use Rattle.lines.proofs.Along.{along-long}
+use Rattle.lines.proofs.Ranks.{map-at}
 
 -- the excesses of lines summed
 abbrev pub excesses : List Line → ℕ
 excesses xs = sumOf (λ x. x .excess) xs
+
+-- entries whose lines can be put can be put with any limits
+pub any-limits : {S : Source} {list : List ℕ} {n room : ℕ} (limits : List ℕ) → Entries S list n room → Entries (source limits (S .ranking) (S .cells) (S .sets) (S .heads)) list n room
+any-limits {S} {list} {n} limits w = record {
+  ranked = w .ranked;
+  long = w .long;
+  inside = all-map (λ e i. record { tier = i .tier; cell = i .cell; set = i .set; head = i .head }) (entriesIn S list n) (w .inside);
+  amounts = w .amounts;
+  fits = w .fits;
+}
+
+-- an outcome of equal amounts
+pub same-outcome : {a b x y s u : ℕ} → a ≡ b → x ≡ y → s ≡ u → outcomeAt (λ _. a) (λ _. x) s 0 ≡ outcomeAt (λ _. b) (λ _. y) u 0
+same-outcome p q r = rw (p, q, r)
 
 module _ (S : Source) where
   abbrev L : ℕ → ℕ
@@ -31,7 +47,7 @@ module _ (S : Source) where
   outcomeIn under e = outcomeAt (λ _. L (tierIn e)) (λ _. exposureIn (S .cells) e) under 0
 
   module _ (under e : ℕ) (o : Outcome) (h : o ≡ outcomeIn under e) where
-    pub line-is :
+    line-is :
         _≡_ {A = Line}
         (record {
           top = getD (S .heads) (groupIn e) 0;
@@ -45,6 +61,12 @@ module _ (S : Source) where
         (entryLine S under e)
     unfolding entryLine outcomeAt
     line-is = rw h
+
+    -- of the parts that the code has
+    pub line-of :
+        {g t x l : ℕ} → g ≡ groupIn e → t ≡ tierIn e → x ≡ exposureIn (S .cells) e → l ≡ L (tierIn e)
+        → _≡_ {A = Line} (record { top = getD (S .heads) g 0; tier = t; tiers = getD (S .sets) g 0; exposure = x; limit = l; left = o .left; excess = o .excess }) (entryLine S under e)
+    line-of p q r s = rw (p, q, r, s) line-is
 
     pub standing-is : o .standing ≡ next L (λ _. exposureIn (S .cells) e) under (tierIn e)
     unfolding next outcomeAt
@@ -61,32 +83,36 @@ module _ (S : Source) where
 
   module _ (list : List ℕ) (n : ℕ) where
     abbrev pub rest : ℕ → List ℕ
-    rest i = drop i (take n list)
+    rest i = drop i (entriesIn S list n)
+
+    -- one to each
+    pub entries-long : n ≤ length list → length (entriesIn S list n) ≡ n
+    entries-long l = length-map (take n list) (ofRank (S .ranking)) ∙ length-take-le n list l
 
     module _ (room : ℕ) (w : Entries S list n room) (last s : ℕ) where
-      pub lines-fit : headSize + length (joined (linesAlong S last s (take n list))) ≤ room
-      lines-fit = omega (arith, joined-long (linesAlong S last s (take n list)), along-long S (take n list) last s, length-take-le n list (w .long), w .fits)
+      pub lines-fit : headSize + length (joined (linesAlong S last s (entriesIn S list n))) ≤ room
+      lines-fit = omega (arith, joined-long (linesAlong S last s (entriesIn S list n)), along-long S (entriesIn S list n) last s, entries-long (w .long), w .fits)
 
       -- behind the last entry nothing is left
       pub lines-end : (i : ℕ) → n ≤ i → linesAlong S last s (rest i) ≡ []
       unfolding linesAlong
-      lines-end i l = rw (drop-of-length-le (take n list) {i = i} (omega (arith, length-take-le n list (w .long))))
+      lines-end i l = rw (drop-of-length-le (entriesIn S list n) {i = i} (omega (arith, entries-long (w .long))))
 
     module _ (room : ℕ) (w : Entries S list n room) (i : ℕ) (l : i < n) where
       abbrev e : ℕ
-      e = getD list i 0
+      e = ofRank (S .ranking) (getD list i 0)
 
-      long : i < length (take n list)
-      long = omega (arith, length-take-le n list (w .long))
+      long : i < length (entriesIn S list n)
+      long = omega (arith, entries-long (w .long))
 
-      at : getD (take n list) i 0 ≡ e
-      at = getD-take n list i 0 l
+      at : getD (entriesIn S list n) i 0 ≡ e
+      at = map-at (ofRank (S .ranking)) (take n list) i (omega (arith, length-take-le n list (w .long))) ∙ ap (ofRank (S .ranking)) (getD-take n list i 0 l)
 
       rest-step : rest i ≡ e ∷ rest (i + 1)
-      rest-step = rw (drop-cons (take n list) i 0 long, at, add-one)
+      rest-step = rw (drop-cons (entriesIn S list n) i 0 long, at, add-one)
 
       pub entry-inside : Inside S e
-      entry-inside = rw at at (all-at (Inside S) (take n list) (w .inside) i long)
+      entry-inside = rw at at (all-at (Inside S) (entriesIn S list n) (w .inside) i long)
 
       pub exposure-step : sumOf (exposureIn (S .cells)) (rest i) ≡ exposureIn (S .cells) e + sumOf (exposureIn (S .cells)) (rest (i + 1))
       unfolding sumOf

@@ -3,11 +3,13 @@ use cascade::TIERS;
 use figures::Figures;
 use figures::Head;
 use figures::Line;
-use rows::COLUMNS;
 ghost use mathlib.Core.Path.{_≡_};
+ghost use mathlib.Core.List.{map};
 ghost use lib.ListN.{length};
 ghost use Rattle.words.specs.Words.{sumOf};
 ghost use Rattle.wire.specs.Bytes.{placed};
+ghost use Rattle.cascade.specs.Cascade.{tiers, byTier};
+ghost use Rattle.cascade.specs.Promise.{Once};
 ghost use Rattle.figures.specs.Report.{headSize, joined};
 ghost use Rattle.lines.specs.Listing.{source, listedLines};
 ghost use Rattle.lines.specs.Promise.{Entries, Ready, Reported};
@@ -15,19 +17,38 @@ ghost use Rattle.lines.specs.Promise.{Entries, Ready, Reported};
 // No group has this number.
 const NONE: usize = 65535;
 
-// The lines along a list of entries, behind the header; their excesses summed. What stands is 0 again where the group changes.
+// Amounts by tier, ranked into a new array.
+fn by_rank(amounts: [u64; TIERS], ranking: [usize; TIERS]) -> [u64; TIERS]
+    requires { ⌜ Once tiers ranking ⌝ }
+    ensures { λ r. ⌜ r ≡ map (byTier amounts) ranking ⌝ }
+{
+    let mut out = [0u64; TIERS];
+    let mut i = 0;
+    while i < TIERS {
+        let t = ranking[i];
+        out[i] = amounts[t];
+        i += 1;
+    }
+    out
+}
+
+// The lines along a list of entries, behind the header; their excesses summed. Limits and the group's exposures are arrays by rank, the exposures ranked
+// anew where the group changes; there nothing stands.
 fn put_list(
     d: &mut [u8],
     limits: [u64; TIERS],
+    ranking: [usize; TIERS],
     cells: &[u64],
     sets: &[u16],
     heads: &[u16],
     list: &[u16],
     lines: usize,
 ) -> u64
-    requires { ⌜ Entries (source limits (now cells) (now sets) (now heads)) (now list) lines (length (now d)) ⌝ }
-    ensures { λ r. ⌜ (r ≡ sumOf (λ x. x .excess) (listedLines (source limits (now (cells .entry)) (now (sets .entry)) (now (heads .entry))) (now (list .entry)) lines)) × (now (d .exit) ≡ placed (now (d .entry)) headSize (joined (listedLines (source limits (now (cells .entry)) (now (sets .entry)) (now (heads .entry))) (now (list .entry)) lines))) ⌝ }
+    requires { ⌜ Entries (source limits ranking (now cells) (now sets) (now heads)) (now list) lines (length (now d)) ⌝ }
+    ensures { λ r. ⌜ (r ≡ sumOf (λ x. x .excess) (listedLines (source limits ranking (now (cells .entry)) (now (sets .entry)) (now (heads .entry))) (now (list .entry)) lines)) × (now (d .exit) ≡ placed (now (d .entry)) headSize (joined (listedLines (source limits ranking (now (cells .entry)) (now (sets .entry)) (now (heads .entry))) (now (list .entry)) lines))) ⌝ }
 {
+    let ranked = by_rank(limits, ranking);
+    let mut exposures = [0u64; TIERS];
     let mut excesses: u64 = 0;
     let mut standing: u64 = 0;
     let mut last = NONE;
@@ -36,17 +57,18 @@ fn put_list(
     while i < lines {
         let entry = list[i] as usize;
         let k = entry / TIERS;
-        let t = entry % TIERS;
-        let under = choice::amount(k == last, standing, 0);
-        let exposure = cells[COLUMNS * k + t];
-        let limit = limits[t];
-        let cut = cascade::cut(limit, exposure, under);
+        let rank = entry % TIERS;
+        if k != last {
+            exposures = by_rank(rows::row_of(cells, k), ranking);
+            standing = 0;
+        }
+        let cut = cascade::cut(ranked[rank], exposures[rank], standing);
         let line = Line {
             top: heads[k],
-            tier: t as u8,
+            tier: ranking[rank] as u8,
             tiers: sets[k],
-            exposure,
-            limit,
+            exposure: exposures[rank],
+            limit: ranked[rank],
             left: cut.left,
             excess: cut.excess,
         };
@@ -63,6 +85,7 @@ fn put_list(
 pub fn put_report(
     buffer: &mut [u8],
     limits: [u64; TIERS],
+    ranking: [usize; TIERS],
     cells: &[u64],
     sets: &[u16],
     heads: &[u16],
@@ -70,10 +93,10 @@ pub fn put_report(
     lines: usize,
     figures: Figures,
 )
-    requires { ⌜ Ready (source limits (now cells) (now sets) (now heads)) (now list) lines figures (length (now buffer)) ⌝ }
-    ensures { λ _. ⌜ Reported (source limits (now (cells .entry)) (now (sets .entry)) (now (heads .entry))) (now (list .entry)) lines figures (now (buffer .entry)) (now (buffer .exit)) ⌝ }
+    requires { ⌜ Ready (source limits ranking (now cells) (now sets) (now heads)) (now list) lines figures (length (now buffer)) ⌝ }
+    ensures { λ _. ⌜ Reported (source limits ranking (now (cells .entry)) (now (sets .entry)) (now (heads .entry))) (now (list .entry)) lines figures (now (buffer .entry)) (now (buffer .exit)) ⌝ }
 {
-    let group_excess = put_list(buffer, limits, cells, sets, heads, list, lines);
+    let group_excess = put_list(buffer, limits, ranking, cells, sets, heads, list, lines);
     let over = choice::less(figures.a3_sum, figures.a3_limit);
     let head = Head {
         lines: lines as u16,

@@ -9,22 +9,30 @@ use Rattle.columns.specs.ClassLaws.{kind-le, class-le}
 use Rattle.classes.proofs.class_of.Statement.{statement}
 use Rattle.classes.proofs.class_of.Tie as tie
 
-record Small (c : tie.After-amount) : Type 0 where
-  kind : c .before .before .before .kind-number .result ≤ 4
-  grade : c .amount .result ≤ 8
+-- kind and grade together, an approval and an affiliate
+small : (c : tie.After-amount) → 16 * c .before .before .kind-number .result + c .amount .result ≤ 72
+small c =
+    let kind : c .before .before .kind-number .result ≤ 4 = rw (c .before .before .kind-number .ensures) (kind-le (c .before .before .before .args .who .kind)) in
+    let grade : c .amount .result ≤ 8 = rw (c .amount .ensures) (if-le (c .before .is-graded .result) (omega arith) (omega arith)) in
+    omega arith
 
-small : (c : tie.After-amount) → Small c
-small c = record {
-  kind = rw (c .before .before .before .kind-number .ensures) (kind-le (c .before .before .before .before .args .who .kind));
-  grade = rw (c .amount .ensures) (if-le (c .before .is-graded .result) (omega arith) (omega arith));
-}
+approved : (c : tie.After-amount2) → c .amount2 .result ≤ 4
+approved c = rw (c .amount2 .ensures) (if-le (c .before .is-approved .result) (omega arith) (omega arith))
 
-same : tie.Need-returns
+affiliate : (c : tie.After-amount3) → c .amount3 .result ≤ 2
+affiliate c = rw (c .amount3 .ensures) (if-le (c .before .is-affiliate .result) (omega arith) (omega arith))
+
+returns : tie.Need-returns
 unfolding classOf
-same c =
-    let who = c .before .before .before .before .args .who in
-    let e : 16 * c .before .before .before .kind-number .result + c .amount .result + who .flags ≡ classOf who = cc in
-    (e, rw e (class-le who (c .before .before .before .before .pre)))
+returns c =
+    let third = c .before .before in
+    let second = third .before .before in
+    let first = second .before .before in
+    let s = first .before .before .before in
+    let who = s .args .who in
+    let one-is = c .one .ensures .0 in
+    let e : 16 * first .before .before .kind-number .result + first .amount .result + second .amount2 .result + third .amount3 .result + c .one .result ≡ classOf who = cc in
+    (e, rw e (class-le who (s .pre)))
 
 pub class-of-spec : {M : Type 1} → statement M
 class-of-spec =
@@ -33,9 +41,16 @@ class-of-spec =
     (λ c κs. search needs)
     (λ c. search needs)
     (λ c. search needs)
-    (λ c. search needs)
     (λ c κs. search needs)
     (λ c κs. search needs)
-    (λ c. let s = small c in omega arith)
-    (λ c. let s = small c in omega arith)
-    same)
+    (λ c. omega (arith, small c))
+    (λ c κs. search needs)
+    (λ c κs. search needs)
+    (λ c. omega (arith, small (c .before .before), approved c))
+    (λ c κs. search needs)
+    (λ c κs. search needs)
+    (λ c. omega (arith, small (c .before .before .before .before), approved (c .before .before), affiliate c))
+    (λ c κs. search needs)
+    (λ c κs. search needs)
+    (λ c. omega (arith, small (c .before .before .before .before .before .before), approved (c .before .before .before .before), affiliate (c .before .before)))
+    returns)

@@ -1,70 +1,149 @@
--- `put_list` meets its contract. The loop's invariant: the lines that are still to come are put behind those that are; their excesses make up the sum; and
--- what stands, the excesses so far and the exposures to come are within all exposures.
-use mathlib.Core.Path.{_≡_, ap, sym, _∙_}
-use mathlib.Core.List.{List, []}
-use Prim.Native.Nat.{ℕ, _+_, _*_, _-_, _≤_}
+-- `put_list` meets its contract. The loop's invariant: the array has the ranked exposures of the last group; what stands, the excesses so far and the
+-- exposures to come are within all exposures; and, of whatever limits the ranked ones are, the lines that are still to come are put behind those that are,
+-- and their excesses make up the sum.
+use mathlib.Core.Logic.{⊎-elim}
+use mathlib.Core.Path.{_≡_, refl, ap, ap₂, sym, _∙_}
+use mathlib.Core.List.{List, [], _++_, map}
+use Prim.Native.Nat.{ℕ, _+_, _*_, _-_, _≤_, _<_}
 use native.Mathlib.Omega.{arith}
 use denote.Ref.{now}
-use lib.ListN.{take, getD}
+use lib.ListN.{length, take, getD}
+use borrow.Author.Tests.{eq-eqb, ne-eqb}
 use Rattle.words.specs.Words.{_=?_, sumOf, eachOf}
 use Rattle.words.specs.Choice.{if-le}
 use Rattle.wire.specs.Bytes.{placed}
+use Rattle.cascade.specs.Cascade.{tiers, byTier}
 use Rattle.figures.specs.declared.Line.{Line}
 use Rattle.figures.specs.Report.{headSize, lineSize, lineBytes, joined}
 use Rattle.figures.proofs.Back.{line-long}
-use Rattle.lines.specs.Listing.{groupIn, exposureIn, Source, source, before, entryLine, linesAlong, noGroup, listedLines}
+use Rattle.rows.specs.Rows.{row}
+use Rattle.lines.specs.Listing.{groupIn, tierIn, exposureIn, ofRank, Source, source, before, entryLine, linesAlong, noGroup, entriesIn, listedLines}
 use Rattle.lines.specs.Promise.{Inside}
+use Rattle.lines.proofs.Entries.{exposure-in}
+use Rattle.lines.proofs.Ranks.{map-at, rank-few, rank-group, rank-tier}
 use Rattle.layout.proofs.Putting.{Putting, put-start, put-piece, put-end, line-placed}
-use Rattle.writing.proofs.Writing.{excesses as excessesOf, outcomeIn, line-is, standing-is, excess-is, kept, rest, lines-fit, lines-end, entry-inside, exposure-step, excess-step, bytes-step}
+use Rattle.writing.proofs.Writing.{excesses as excessesOf, any-limits, same-outcome, outcomeIn, line-of, standing-is, excess-is, kept, rest, lines-fit, lines-end, entry-inside, exposure-step, excess-step, bytes-step}
 use borrow.Author.Needs.{needs}
 use Rattle.writing.proofs.put_list.Statement.{statement}
 use Rattle.writing.proofs.put_list.Tie as tie
 
+-- the lines that are put and those to come, of some limits
+abbrev Put : (S : Source) (list d₀ d : List ℕ) (lines excesses standing last place i : ℕ) → Type 0
+Put S list d₀ d lines excesses standing last place i =
+    (excesses + excessesOf (linesAlong S last standing (rest S list lines i)) ≡ excessesOf (listedLines S list lines))
+    × Putting d₀ headSize (joined (listedLines S list lines)) d place (joined (linesAlong S last standing (rest S list lines i)))
+
 abbrev Inv-loop : tie.InvT-loop
-Inv-loop d₀ cells sets heads list lines limits excesses₀ standing₀ last₀ place₀ i₀ d excesses standing last place i =
+Inv-loop d₀ cells sets heads list lines ranking ranked exposures₀ excesses₀ standing₀ last₀ place₀ i₀ d exposures excesses standing last place i =
     (i ≤ lines)
-    × (standing + excesses + sumOf (exposureIn cells) (rest (source limits cells sets heads) list lines i) ≤ sumOf (exposureIn cells) (take lines list))
-    × (excesses + excessesOf (linesAlong (source limits cells sets heads) last standing (rest (source limits cells sets heads) list lines i)) ≡ excessesOf (listedLines (source limits cells sets heads) list lines))
+    × (standing + excesses + sumOf (exposureIn cells) (rest (source [] ranking cells sets heads) list lines i) ≤ sumOf (exposureIn cells) (entriesIn (source [] ranking cells sets heads) list lines))
+    × ((last ≡ noGroup → ⊥) → exposures ≡ map (byTier (row cells last)) ranking)
     × (place ≡ headSize + lineSize * i)
-    × Putting d₀ headSize (joined (listedLines (source limits cells sets heads) list lines)) d place
-    (joined (linesAlong (source limits cells sets heads) last standing (rest (source limits cells sets heads) list lines i)))
+    × (length d ≡ length d₀)
+    × ((limits : List ℕ) → ranked ≡ map (byTier limits) ranking → Put (source limits ranking cells sets heads) list d₀ d lines excesses standing last place i)
 
 abbrev μ-loop : tie.MeasureT-loop
-μ-loop d₀ cells sets heads list lines limits excesses₀ standing₀ last₀ place₀ i₀ d excesses standing last place i = lines - i
+μ-loop d₀ cells sets heads list lines ranking ranked exposures₀ excesses₀ standing₀ last₀ place₀ i₀ d exposures excesses standing last place i = lines - i
 
 -- where the entry at the place reached is taken
 module _ (c : tie.In-loop Inv-loop μ-loop) where
   abbrev start : tie.Start Inv-loop μ-loop
-  start = c .before .before .before .before .before .before .before
+  start = c .before .before .before .before .before .before .before .before
 
-  abbrev S : Source
-  S = source (start .args .t2) (now (start .args .cells)) (now (start .args .sets)) (now (start .args .heads))
+  abbrev cells : List ℕ
+  cells = now (start .args .cells)
+
+  abbrev ranking : List ℕ
+  ranking = start .args .t3
+
+  abbrev ranked : List ℕ
+  ranked = c .before .before .by-rank .result
+
+  abbrev S : List ℕ → Source
+  S limits = source limits ranking cells (now (start .args .sets)) (now (start .args .heads))
+
+  abbrev own : Source
+  own = S (start .args .limits)
 
   abbrev at : ℕ
   at = c .before .loop .i
 
+  -- the entry by rank, and by tier
+  abbrev code : ℕ
+  code = getD (now (start .args .list)) at 0
+
   abbrev e : ℕ
-  e = getD (now (start .args .list)) at 0
+  e = ofRank ranking code
 
-  here : Inside S e
-  here = entry-inside S (now (start .args .list)) (start .args .lines) _ (start .pre) at (omega arith)
+  long : length ranking ≡ tiers
+  long = search needs
 
-  exposure-here : sumOf (exposureIn (S .cells)) (rest S (now (start .args .list)) (start .args .lines) at) ≡ exposureIn (S .cells) e + sumOf (exposureIn (S .cells)) (rest S (now (start .args .list)) (start .args .lines) (at + 1))
-  exposure-here = exposure-step S (now (start .args .list)) (start .args .lines) _ (start .pre) at (omega arith)
+  here : Inside own e
+  here = entry-inside own (now (start .args .list)) (start .args .lines) _ (start .pre) at (omega arith)
 
--- what stands before it, its exposure and the excesses so far are within all exposures
-within :
-    (c : tie.After-amount Inv-loop μ-loop)
-    → c .amount .result + exposureIn (S (c .before .before) .cells) (e (c .before .before)) + c .before .before .before .loop .excesses
-    + sumOf (exposureIn (S (c .before .before) .cells)) (rest (S (c .before .before)) (now (start (c .before .before) .args .list)) (start (c .before .before) .args .lines) (at (c .before .before) + 1))
-    ≤ sumOf (exposureIn (S (c .before .before) .cells)) (take (start (c .before .before) .args .lines) (now (start (c .before .before) .args .list)))
-within c =
-    let l = c .before .before .before .loop in
-    let u : c .amount .result ≤ l .standing = rw (c .amount .ensures) (if-le (groupIn (e (c .before .before)) =? l .last) (omega arith) (omega arith)) in
-    omega (arith, l .inv .1, exposure-here (c .before .before))
+  group : groupIn e ≡ groupIn code
+  group = rank-group ranking (start .pre .ranked) long code
 
-cut-is : (c : tie.After-cut Inv-loop μ-loop) → let i = c .before .before .before .before in c .cut .result ≡ outcomeIn (S i) (before (i .before .loop .last) (i .before .loop .standing) (e i)) (e i)
-cut-is c = let i = c .before .before .before .before in c .cut .ensures ∙ ap (λ (u : ℕ). outcomeIn (S i) u (e i)) (c .before .before .amount .ensures)
+  tier : tierIn e ≡ getD ranking (tierIn code) 0
+  tier = rank-tier ranking (start .pre .ranked) long code
+
+  exposure-here : sumOf (exposureIn cells) (rest own (now (start .args .list)) (start .args .lines) at) ≡ exposureIn cells e + sumOf (exposureIn cells) (rest own (now (start .args .list)) (start .args .lines) (at + 1))
+  exposure-here = exposure-step own (now (start .args .list)) (start .args .lines) _ (start .pre) at (omega arith)
+
+  -- what stands before it
+  abbrev under : ℕ
+  under = before (c .before .loop .last) (c .before .loop .standing) e
+
+  -- its limit, of whatever limits the ranked ones are
+  limit-is : (limits : List ℕ) → ranked ≡ map (byTier limits) ranking → getD ranked (tierIn code) 0 ≡ byTier limits (tierIn e)
+  limit-is limits q = ap (λ (r : List ℕ). getD r (tierIn code) 0) q ∙ map-at (byTier limits) ranking (tierIn code) (omega (arith, long)) ∙ ap (byTier limits) (sym tier)
+
+-- where the group's exposures are at hand
+module _ (c : tie.Joined1 Inv-loop μ-loop) where
+  abbrev in-loop : tie.In-loop Inv-loop μ-loop
+  in-loop = c .before .before
+
+  exposures-are : c .if1 .exposures ≡ map (byTier (row (cells in-loop) (groupIn (code in-loop)))) (ranking in-loop)
+  exposures-are =
+      ⊎-elim (λ w. w .3 ∙ w .2 .ensures ∙ ap (λ (r : List ℕ). map (byTier r) (ranking in-loop)) (w .1 .ensures))
+      (λ w. w .1 ∙ in-loop .before .loop .inv .2 (λ z. omega (arith, w .0 .left, z, c .before .shared-slice-known5 .given (at in-loop))) ∙ ap (λ (j : ℕ). map (byTier (row (cells in-loop) j)) (ranking in-loop)) (sym (w .0 .left))) (c .if1 .came)
+
+  standing-was : c .if1 .standing ≡ under in-loop
+  standing-was =
+      ⊎-elim (λ w. w .4 ∙ rw (ne-eqb (groupIn (e in-loop)) (in-loop .before .loop .last) (λ z. w .0 .taken (sym (group in-loop) ∙ z))))
+      (λ w. w .2 ∙ rw (eq-eqb (groupIn (e in-loop)) (in-loop .before .loop .last) (group in-loop ∙ w .0 .left))) (c .if1 .came)
+
+  exposure-is : getD (c .if1 .exposures) (tierIn (code in-loop)) 0 ≡ exposureIn (cells in-loop) (e in-loop)
+  exposure-is =
+      let r = tierIn (code in-loop) in
+      ap (λ (xs : List ℕ). getD xs r 0) exposures-are
+      ∙ map-at (byTier (row (cells in-loop) (groupIn (code in-loop)))) (ranking in-loop) r (omega (arith, long in-loop))
+      ∙ sym (exposure-in (groupIn (code in-loop)) (getD (ranking in-loop) r 0) (rank-few (ranking in-loop) (start in-loop .pre .ranked) (long in-loop) r (omega arith)) (cells in-loop))
+
+  -- what stands before it, its exposure and the excesses so far are within all exposures
+  within :
+      c .if1 .standing + getD (c .if1 .exposures) (tierIn (code in-loop)) 0 + in-loop .before .loop .excesses
+      + sumOf (exposureIn (cells in-loop)) (rest (own in-loop) (now (start in-loop .args .list)) (start in-loop .args .lines) (at in-loop + 1))
+      ≤ sumOf (exposureIn (cells in-loop)) (entriesIn (own in-loop) (now (start in-loop .args .list)) (start in-loop .args .lines))
+  within =
+      let l = in-loop .before .loop in
+      let u : under in-loop ≤ l .standing = if-le (groupIn (e in-loop) =? l .last) (omega arith) (omega arith) in
+      omega (arith, u, standing-was, l .inv .1, exposure-here in-loop, exposure-is)
+
+-- the outcome, of whatever limits the ranked ones are
+module _ (c : tie.After-cut Inv-loop μ-loop) where
+  abbrev i : tie.In-loop Inv-loop μ-loop
+  i = c .before .before .before
+
+  cut-is : (limits : List ℕ) → ranked i ≡ map (byTier limits) (ranking i) → c .cut .result ≡ outcomeIn (S i limits) (under i) (e i)
+  cut-is limits q = c .cut .ensures ∙ same-outcome (limit-is i limits q) (exposure-is (c .before)) (standing-was (c .before))
+
+  own-cut : c .cut .result ≡ outcomeIn (own i) (under i) (e i)
+  own-cut = cut-is (start i .args .limits) (i .before .before .by-rank .ensures)
+
+  -- what it adds to what stands and to the excesses
+  adds : c .cut .result .standing + c .cut .result .excess ≡ c .before .if1 .standing + getD (c .before .if1 .exposures) (tierIn (code i)) 0
+  adds = omega (arith, standing-was (c .before), exposure-is (c .before), kept (own i) (under i) (e i) (c .cut .result) own-cut)
 
 -- where no line is left
 no-excess : {xs : List Line} {n : ℕ} → xs ≡ [] → n + excessesOf xs ≡ n
@@ -75,10 +154,13 @@ no-bytes : {xs : List Line} → xs ≡ [] → joined xs ≡ []
 unfolding eachOf
 no-bytes h = rw h
 
+by-rank-requires : tie.Need-by-rank-requires Inv-loop μ-loop
+by-rank-requires c κs = c .before .before .before .before .before .pre .ranked
+
 loop-holds : tie.Need-loop-holds Inv-loop μ-loop
 loop-holds c =
-    let a = c .before .before .before .before .before .args in
-    (omega arith, omega arith, omega arith, omega arith, put-start (now (a .d)) headSize _)
+    let a = c .before .before .before .before .before .before .args in
+    (omega arith, omega arith, (λ n. absurd (n refl)), omega arith, refl, λ limits q. (omega arith, put-start (now (a .d)) headSize _))
 
 mul-entry : tie.Need-mul-entry Inv-loop μ-loop
 mul-entry c = record { fits = omega (arith, start c .pre .long) }
@@ -89,90 +171,69 @@ shared-slice-read-entry c = omega (arith, start (c .before) .pre .long)
 cast-entry : tie.Need-cast-entry Inv-loop μ-loop
 cast-entry c = record { fits = omega (arith, c .shared-slice-known5 .given (at (c .before))) }
 
-mul-exposure : tie.Need-mul-exposure Inv-loop μ-loop
-mul-exposure c = let h = here (c .before .before) in record { fits = omega (arith, h .cell) }
+row-of-requires : tie.Need-row-of-requires Inv-loop μ-loop
+row-of-requires c κs = rw (← group (c .before .before)) (here (c .before .before) .cell)
 
-add-exposure : tie.Need-add-exposure Inv-loop μ-loop
-add-exposure c = let h = here (c .before .before) in record { fits = omega (arith, h .cell) }
-
-mul-exposure-2 : tie.Need-mul-exposure-2 Inv-loop μ-loop
-mul-exposure-2 c = let h = here (c .before .before) in record { fits = omega (arith, h .cell) }
-
-shared-slice-read-exposure : tie.Need-shared-slice-read-exposure Inv-loop μ-loop
-shared-slice-read-exposure c = let h = here (c .before .before .before) in omega (arith, h .cell)
-
-mul-limit : tie.Need-mul-limit Inv-loop μ-loop
-mul-limit c = record { fits = omega arith }
-
-array-read-limit : tie.Need-array-read-limit Inv-loop μ-loop
-array-read-limit c = here (c .before .before .before) .tier
+by-rank-requires-2 : tie.Need-by-rank-requires-2 Inv-loop μ-loop
+by-rank-requires-2 c κs = start (c .before .before .before) .pre .ranked
 
 cut-requires : tie.Need-cut-requires Inv-loop μ-loop
-cut-requires c κs = omega (arith, within (c .before), start (c .before .before .before) .pre .amounts)
+cut-requires c κs = omega (arith, within c, start (c .before .before) .pre .amounts)
 
-mul-t27 : tie.Need-mul-t27 Inv-loop μ-loop
-mul-t27 c = let h = here (c .before .before .before .before) in record { fits = omega (arith, h .head) }
+head-in : (c : tie.After-cut Inv-loop μ-loop) → groupIn (code (i c)) < length (now (start (i c) .args .heads))
+head-in c = rw (← group (i c)) (here (i c) .head)
 
-shared-slice-read-t25 : tie.Need-shared-slice-read-t25 Inv-loop μ-loop
-shared-slice-read-t25 c = here (c .before .before .before .before .before) .head
+set-in : (c : tie.After-cut Inv-loop μ-loop) → groupIn (code (i c)) < length (now (start (i c) .args .sets))
+set-in c = rw (← group (i c)) (here (i c) .set)
 
-cast-t33 : tie.Need-cast-t33 Inv-loop μ-loop
-cast-t33 c = record { fits = omega arith }
-
-mul-t23 : tie.Need-mul-t23 Inv-loop μ-loop
-mul-t23 c = let h = here (c .before .before .before .before .before) in record { fits = omega (arith, h .set) }
-
-shared-slice-read-t35 : tie.Need-shared-slice-read-t35 Inv-loop μ-loop
-shared-slice-read-t35 c = here (c .before .before .before .before .before .before) .set
+tier-in : (c : tie.After-cut Inv-loop μ-loop) → getD (ranking (i c)) (tierIn (code (i c))) 0 < tiers
+tier-in c = rw (← tier (i c)) (here (i c) .tier)
 
 put-line-requires : tie.Need-put-line-requires Inv-loop μ-loop
-put-line-requires c κs = let i = c .before .before .before .before .before .before .before in omega (arith, start i .pre .fits, i .before .loop .inv .4 .size)
+put-line-requires c κs = let l = i (c .before .before .before) in omega (arith, start l .pre .fits, l .before .loop .inv .3, l .before .loop .inv .4)
 
 add-excesses : tie.Need-add-excesses Inv-loop μ-loop
 add-excesses c =
     let k = c .before .before .before .before .before .before .before in
-    let i = k .before .before .before .before in
-    let m = kept (S i) (before (i .before .loop .last) (i .before .loop .standing) (e i)) (e i) (k .cut .result) (cut-is k) in
-    record { fits = omega (arith, m, within (k .before .before), k .before .before .amount .ensures, start i .pre .amounts) }
-
-add-i : tie.Need-add-i Inv-loop μ-loop
-add-i c = record { fits = omega arith }
+    record { fits = omega (arith, adds k, within (k .before), start (i k) .pre .amounts) }
 
 loop-again : tie.Need-loop-again Inv-loop μ-loop
 loop-again c =
     let k = c .before .before .before .before .before .before .before in
-    let i = k .before .before .before .before in
-    let l = i .before .loop in
-    let a = start i .args in
-    let under = before (l .last) (l .standing) (e i) in
-    let m = kept (S i) under (e i) (k .cut .result) (cut-is k) in
-    let next = standing-is (S i) under (e i) (k .cut .result) (cut-is k) in
-    let over = excess-is (S i) under (e i) (k .cut .result) (cut-is k) in
-    let step = excess-step (S i) (now (a .list)) (a .lines) _ (start i .pre) (at i) (omega arith) (l .last) (l .standing) in
+    let j = i k in
+    let l = j .before .loop in
+    let a = start j .args in
     let p = c .before .before .before .put-line in
-    let bytes = bytes-step (S i) (now (a .list)) (a .lines) _ (start i .pre) (at i) (omega arith) (l .last) (l .standing) in (
+    let list = now (a .list) in (
       omega arith,
-      omega (arith, m, within (k .before .before), k .before .before .amount .ensures),
-      rw next (omega (arith, over, step, l .inv .2)),
-      omega (arith, p .ensures .place),
-      rw next
-          (put-piece (l .inv .4) (lines-fit (S i) (now (a .list)) (a .lines) _ (start i .pre) noGroup 0) (lineBytes (entryLine (S i) under (e i))) _ bytes
-          (omega (arith, p .ensures .place, line-long (entryLine (S i) under (e i)))) (search needs)
-          (line-placed (p .ensures) ∙ ap (λ (x : Line). placed (l .d) (l .place) (lineBytes x)) (line-is (S i) under (e i) (k .cut .result) (cut-is k)))),
+      omega (arith, adds k, within (k .before)),
+      (λ _. exposures-are (k .before)),
+      omega (arith, p .ensures .place, l .inv .3),
+      search needs,
+      (λ limits q.
+          let S = S j limits in
+          let w = any-limits limits (start j .pre) in
+          let o = cut-is k limits q in
+          let step = excess-step S list (a .lines) _ w (at j) (omega arith) (l .last) (l .standing) in
+          let bytes = bytes-step S list (a .lines) _ w (at j) (omega arith) (l .last) (l .standing) in
+          let after = ap₂ (λ (g s : ℕ). linesAlong S g s (rest S list (a .lines) (at j + 1))) (sym (group j)) (standing-is S (under j) (e j) (k .cut .result) o) in (
+            omega (arith, excess-is S (under j) (e j) (k .cut .result) o, step, l .inv .5 limits q .0, ap (λ (xs : List Line). excessesOf xs) after),
+            put-piece (l .inv .5 limits q .1) (lines-fit S list (a .lines) _ w noGroup 0) (lineBytes (entryLine S (under j) (e j))) _ (bytes ∙ ap (λ (xs : List Line). lineBytes (entryLine S (under j) (e j)) ++ joined xs) (sym after))
+                (omega (arith, p .ensures .place, line-long (entryLine S (under j) (e j)))) (search needs)
+                (line-placed (p .ensures) ∙ ap (λ (x : Line). placed (l .d) (l .place) (lineBytes x)) (line-of S (under j) (e j) (k .cut .result) o (sym (group j)) (sym (tier j)) (exposure-is (k .before)) (limit-is j limits q))),
+          )),
     )
-
-same-length : tie.Need-same-length Inv-loop μ-loop
-same-length c = c .before .loop .inv .4 .size
 
 returns : tie.Need-returns Inv-loop μ-loop
 returns c =
-    let s = c .before .before .before .before .before .before .before in
+    let s = c .before .before .before .before .before .before .before .before in
     let l = c .before .loop in
     let a = s .args in
-    let S = source (a .t2) (now (a .cells)) (now (a .sets)) (now (a .heads)) in
-    let none = lines-end S (now (a .list)) (a .lines) _ (s .pre) (l .last) (l .standing) (l .i) (omega arith) in (
-      sym (no-excess none) ∙ l .inv .2,
-      put-end (l .inv .4) (lines-fit S (now (a .list)) (a .lines) _ (s .pre) noGroup 0) (no-bytes none) .1,
+    let S = source (a .limits) (a .t3) (now (a .cells)) (now (a .sets)) (now (a .heads)) in
+    let none = lines-end S (now (a .list)) (a .lines) _ (s .pre) (l .last) (l .standing) (l .i) (omega arith) in
+    let put = l .inv .5 (a .limits) (c .before .before .by-rank .ensures) in (
+      sym (no-excess none) ∙ put .0,
+      put-end (put .1) (lines-fit S (now (a .list)) (a .lines) _ (s .pre) noGroup 0) (no-bytes none) .1,
     )
 
 pub put-list-spec : {M : Type 1} → statement M
@@ -181,27 +242,33 @@ put-list-spec =
     (tie.spec
     Inv-loop
     μ-loop
+    by-rank-requires
     loop-holds
     mul-entry
     shared-slice-read-entry
     cast-entry
-    (λ c κs. search needs)
-    mul-exposure
-    add-exposure
-    mul-exposure-2
-    shared-slice-read-exposure
-    mul-limit
-    array-read-limit
+    row-of-requires
+    by-rank-requires-2
+    (λ c. record { fits = omega arith })
+    (λ c. omega arith)
+    (λ c. record { fits = omega arith })
+    (λ c. omega arith)
     cut-requires
-    mul-t27
-    shared-slice-read-t25
-    cast-t33
-    mul-t23
-    shared-slice-read-t35
+    (λ c. record { fits = omega (arith, head-in c) })
+    (λ c. head-in (c .before))
+    (λ c. record { fits = omega arith })
+    (λ c. omega arith)
+    (λ c. record { fits = omega (arith, tier-in (c .before)) })
+    (λ c. record { fits = omega (arith, set-in (c .before)) })
+    (λ c. set-in (c .before .before))
+    (λ c. record { fits = omega arith })
+    (λ c. omega arith)
+    (λ c. record { fits = omega arith })
+    (λ c. omega arith)
     put-line-requires
     add-excesses
-    add-i
+    (λ c. record { fits = omega arith })
     (λ c. omega arith)
     loop-again
-    same-length
+    (λ c. c .before .loop .inv .4)
     returns)

@@ -9,11 +9,11 @@ use Rattle.writing.proofs.put_report.Tie as tie
 put-list-requires : tie.Need-put-list-requires
 put-list-requires c κs = let r = c .before .before .before .before .before .before .pre in table-entries (r .table) _ (r .fits)
 
-cast-t14 : tie.Need-cast-t14
-cast-t14 c = record { fits = omega (arith, lines-few (c .before .before .before .before .before .before .before .before .before .before .pre .table)) }
+cast-t15 : tie.Need-cast-t15
+cast-t15 c = record { fits = omega (arith, lines-few (c .before .before .before .before .before .before .before .before .before .before .pre .table)) }
 
-add-t15 : tie.Need-add-t15
-add-t15 c =
+add-t16 : tie.Need-add-t16
+add-t16 c =
     let r = c .before .before .before .before .before .before .before .before .before .before .pre in
     record { fits = omega (arith, c .before .before .before .put-list .ensures .0, c .less .ensures, r .a3, excess-few (r .table)) }
 
@@ -30,8 +30,8 @@ put-report-spec =
     (tie.spec
     put-list-requires
     (λ c κs. search needs)
-    cast-t14
-    add-t15
+    cast-t15
+    add-t16
     (λ c κs. search needs)
     (λ c. search needs)
     returns)

@@ -1,0 +1,92 @@
+-- Entries by rank: the entries of their tiers are those of the table.
+use mathlib.Core.Path.{_≡_, refl, ap, ap₂, sym, _∙_}
+use mathlib.Core.Bool.{Bool, true, false}
+use mathlib.Core.List.{List, [], _∷_, _++_, map}
+use Prim.Native.Nat.{ℕ, zero, suc, _+_, _<_}
+use native.Mathlib.Omega.{arith}
+use lib.ListN.{length, getD, length-map}
+use lib.Seq.{ext-getD}
+use Rattle.words.specs.Words.{_<?_, if_then_else_, eachOf, those, countFrom, All}
+use Rattle.words.specs.Sums.{each-same, all-map, all-count, length-count, count-at}
+use Rattle.cascade.specs.Cascade.{tiers, byTier}
+use Rattle.cascade.specs.Promise.{Once}
+use Rattle.cascade.proofs.Lists.{all-at}
+use Rattle.rows.specs.Rows.{row}
+use Rattle.lines.specs.Listing.{entry, groupIn, tierIn, shown, allEntries, entriesOf, ranks, ofRank, shownBy}
+use Rattle.lines.proofs.Entries.{group-in, tier-in, exposure-in, groupEntries}
+
+-- ---- lists
+
+pub map-at : (f : ℕ → ℕ) (xs : List ℕ) (i : ℕ) → i < length xs → getD (map f xs) i 0 ≡ f (getD xs i 0)
+map-at f [] i l = absurd (omega arith)
+map-at f (x ∷ xs) zero l = refl
+map-at f (x ∷ xs) (suc i) l = map-at f xs i (omega arith)
+
+map-both : (f g h : ℕ → ℕ) (xs : List ℕ) → All (λ x. f (g x) ≡ h x) xs → map f (map g xs) ≡ map h xs
+map-both f g h [] q = refl
+map-both f g h (x ∷ xs) q = ap₂ (λ (y : ℕ) (ys : List ℕ). y ∷ ys) (q .0) (map-both f g h xs (q .1))
+
+map-append : (f : ℕ → ℕ) (xs ys : List ℕ) → map f (xs ++ ys) ≡ map f xs ++ map f ys
+map-append f [] ys = refl
+map-append f (x ∷ xs) ys = ap (λ (zs : List ℕ). f x ∷ zs) (map-append f xs ys)
+
+map-each : (f : ℕ → ℕ) (g : ℕ → List ℕ) (ks : List ℕ) → map f (eachOf g ks) ≡ eachOf (λ k. map f (g k)) ks
+unfolding eachOf
+map-each f g [] = refl
+map-each f g (k ∷ ks) = map-append f (g k) (eachOf g ks) ∙ ap (λ (zs : List ℕ). map f (g k) ++ zs) (map-each f g ks)
+
+those-mapped : (test : ℕ → Bool) (f : ℕ → ℕ) (es : List ℕ) → map f (those (λ e. test (f e)) es) ≡ those test (map f es)
+unfolding those
+those-mapped test f [] = refl
+those-mapped test f (e ∷ es) = by (test (f e)) (those-mapped test f es)
+  where
+    by : (b : Bool) → map f (those (λ e. test (f e)) es) ≡ those test (map f es)
+        → map f (if b then e ∷ those (λ e. test (f e)) es else those (λ e. test (f e)) es) ≡ (if b then f e ∷ those test (map f es) else those test (map f es))
+    by true q = ap (λ (zs : List ℕ). f e ∷ zs) q
+    by false q = q
+
+-- ---- entries
+
+module _ (ranking : List ℕ) (o : Once tiers ranking) (n : length ranking ≡ tiers) where
+  pub rank-few : (i : ℕ) → i < tiers → getD ranking i 0 < tiers
+  rank-few i l = all-at (λ t. t < tiers) ranking (o .inside) i (omega arith)
+
+  pub rank-group : (e : ℕ) → groupIn (ofRank ranking e) ≡ groupIn e
+  rank-group e = group-in (groupIn e) _ (rank-few (tierIn e) (omega arith))
+
+  pub rank-tier : (e : ℕ) → tierIn (ofRank ranking e) ≡ getD ranking (tierIn e) 0
+  rank-tier e = tier-in (groupIn e) _ (rank-few (tierIn e) (omega arith))
+
+  of-entry : (k i : ℕ) → i < tiers → ofRank ranking (entry k i) ≡ entry k (getD ranking i 0)
+  of-entry k i l = ap₂ (λ (j r : ℕ). entry j (getD ranking r 0)) (group-in k i l) (tier-in k i l)
+
+  -- the test of a rank is that of its tier's exposure
+  pub shown-at : (cells : List ℕ) (k i : ℕ) → i < tiers → shownBy cells ranking (entry k i) ≡ (0 <? byTier (row cells k) (getD ranking i 0))
+  shown-at cells k i l = ap (shown cells) (of-entry k i l) ∙ ap (λ (x : ℕ). 0 <? x) (exposure-in k (getD ranking i 0) (rank-few i l) cells)
+
+  ranks-are : map (λ i. getD ranking i 0) ranks ≡ ranking
+  ranks-are =
+      let long : length (map (λ i. getD ranking i 0) ranks) ≡ tiers = length-map ranks (λ i. getD ranking i 0) ∙ length-count 0 tiers in
+      ext-getD 0 (map (λ i. getD ranking i 0) ranks) ranking (long ∙ sym n) (λ i l. count-at (λ i. getD ranking i 0) 0 tiers i (omega (arith, long)) ∙ ap (λ (j : ℕ). getD ranking j 0) (omega arith))
+
+  group-ranks : (k : ℕ) → map (ofRank ranking) (map (entry k) ranks) ≡ map (entry k) ranking
+  group-ranks k =
+      let f : ℕ → ℕ = λ i. entry k (getD ranking i 0) in
+      map-both (ofRank ranking) (entry k) f ranks (all-map (λ i q. of-entry k i (omega (arith, q .1))) ranks (all-count 0 tiers))
+      ∙ sym (map-both (entry k) (λ i. getD ranking i 0) f ranks (all-map (λ i q. refl) ranks (all-count 0 tiers)))
+      ∙ ap (map (entry k)) ranks-are
+
+  all-ranks : (groups : ℕ) → map (ofRank ranking) (allEntries groups ranks) ≡ allEntries groups ranking
+  all-ranks groups =
+      map-each (ofRank ranking) (λ k. map (entry k) ranks) (countFrom 0 groups)
+      ∙ each-same (λ k. map (ofRank ranking) (map (entry k) ranks)) (λ k. map (entry k) ranking) (countFrom 0 groups) (all-map (λ k _. group-ranks k) (countFrom 0 groups) (all-count 0 groups))
+
+  -- those of a group and of all groups that have a line
+  pub group-are : (cells : List ℕ) (k : ℕ) → map (ofRank ranking) (those (shownBy cells ranking) (map (entry k) ranks)) ≡ groupEntries cells ranking k
+  group-are cells k = those-mapped (shown cells) (ofRank ranking) (map (entry k) ranks) ∙ ap (those (shown cells)) (group-ranks k)
+
+  pub entries-are : (cells : List ℕ) (groups : ℕ) → map (ofRank ranking) (those (shownBy cells ranking) (allEntries groups ranks)) ≡ entriesOf cells groups ranking
+  entries-are cells groups = those-mapped (shown cells) (ofRank ranking) (allEntries groups ranks) ∙ ap (those (shown cells)) (all-ranks groups)
+
+  pub entries-many : (cells : List ℕ) (groups : ℕ) → length (those (shownBy cells ranking) (allEntries groups ranks)) ≡ length (entriesOf cells groups ranking)
+  entries-many cells groups = sym (length-map (those (shownBy cells ranking) (allEntries groups ranks)) (ofRank ranking)) ∙ ap length (entries-are cells groups)
