@@ -67,9 +67,13 @@ amountsWithin a =
     a .value ≤? M && a .offsets ≤? M && a .deductions ≤? M && a .insurance ≤? M && a .combination ≤? M
 
 -- "kind 1 to 11; flags (bit 0, bit 1); entry class (0 none, 1 e, 2 g)", and C-11's "Entry class 3"
+abbrev pub codesFit : Asset → Bool
+codesFit a = 1 ≤? a .kind && a .kind ≤? 11 && a .flags <? 4 && a .entry ≤? 3
+
+-- "asset field, unknown bit, amount over M"
 unfoldable pub goodAsset : ℕ → Asset → Bool
 goodAsset C a =
-    1 ≤? a .kind && a .kind ≤? 11 && a .flags <? 4 && a .entry ≤? 3 && inBook C (a .counterparty) && amountsWithin a
+    codesFit a && inBook C (a .counterparty) && amountsWithin a
     && (if reinsurance a then reinsuranceFieldsFit a else noReinsuranceFields a)
 
 -- "form (1 cash, .. 5 letter of credit); flags (bit 0, .. 4)"; "mitigant likewise"

@@ -5,7 +5,7 @@ ghost use mathlib.Core.Path.{_≡_};
 ghost use Prim.Native.Nat.{_+_, _*_, _<_, _≤_};
 ghost use lib.ListN.{length};
 ghost use Rattle.book.specs.Records.{headerSize, counterpartySize};
-ghost use Rattle.book.specs.Check.{goodCounterparty, inBook, noReinsuranceFields, reinsuranceFieldsFit, amountsWithin, goodAsset, goodMitigant, entryAllowed};
+ghost use Rattle.book.specs.Check.{goodCounterparty, inBook, noReinsuranceFields, reinsuranceFieldsFit, amountsWithin, codesFit, goodAsset, goodMitigant, entryAllowed};
 
 // The counterparty of a place: parent, grade, kind and flags. From the bytes, since a kind over 4 has no name in `Kind`.
 pub fn good_counterparty(b: &[u8], place: usize) -> bool
@@ -60,21 +60,30 @@ fn no_reinsurance_fields(a: Asset) -> bool
         & (a.combination == 0)
 }
 
-// An asset of a book with c counterparties.
+// Kind, flags and entry.
+fn codes_fit(a: Asset) -> bool
+    ensures { λ r. ⌜ r ≡ codesFit a ⌝ }
+{
+    (1 <= a.kind) & (a.kind <= 11) & (a.flags < 4) & (a.entry <= 3)
+}
+
+// An asset of a book with c counterparties. By returns, since what comes behind is then tested of the one sort of asset alone.
 pub fn good_asset(c: u16, a: Asset) -> bool
     ensures { λ r. ⌜ r ≡ goodAsset c a ⌝ }
 {
-    (1 <= a.kind)
-        & (a.kind <= 11)
-        & (a.flags < 4)
-        & (a.entry <= 3)
-        & in_book(c, a.counterparty)
-        & amounts_within(a)
-        & choice::test(
-            book::is_reinsurance(a),
-            reinsurance_fields_fit(a),
-            no_reinsurance_fields(a),
-        )
+    if !codes_fit(a) {
+        return false;
+    }
+    if !in_book(c, a.counterparty) {
+        return false;
+    }
+    if !amounts_within(a) {
+        return false;
+    }
+    if book::is_reinsurance(a) {
+        return reinsurance_fields_fit(a);
+    }
+    no_reinsurance_fields(a)
 }
 
 // A mitigant of a book with c counterparties.

@@ -4,21 +4,17 @@ use mathlib.Core.Bool.{Bool}
 use mathlib.Core.List.{List, [], _∷_, _++_, map}
 use Prim.Native.Nat.{ℕ, suc, _+_, _-_, _≤_, _<_}
 use native.Mathlib.Omega.{arith}
-use lib.Count.{ones}
 use lib.ListN.{length, take, drop, getD, set, length-map, length-append}
 use Rattle.words.specs.Words.{eachOf, those, countFrom}
-use Rattle.words.specs.Sums.{length-count, count-at}
+use Rattle.words.specs.Sums.{sum-length, length-count, count-at}
 use Rattle.wire.specs.Bytes.{placed}
 use Rattle.wire.proofs.Laws.{read-in}
 use Rattle.wire.proofs.Stores.{stored}
 use Rattle.cascade.specs.Cascade.{tiers}
 use Rattle.rows.specs.Rows.{row}
 use Rattle.lines.specs.Table.{setOf}
-use Rattle.lines.specs.Listing.{entry, allEntries, ranks, ofRank, shownBy, tried}
-use Rattle.cascade.specs.Promise.{Once}
-use Rattle.lines.proofs.Tries.{those-append, tried-append}
-use Rattle.lines.proofs.Entries.{row-ones}
-use Rattle.lines.proofs.Ranks.{group-are}
+use Rattle.lines.specs.Listing.{entry, allEntries, tried}
+use Rattle.lines.proofs.Tries.{those-append, those-sum, tried-append}
 
 -- the groups from k on
 abbrev pub numbers : ℕ → ℕ → List ℕ
@@ -59,24 +55,21 @@ pub none-tried : (test : ℕ → Bool) {es : List ℕ} (at : ℕ) (list : List �
 unfolding tried
 none-tried test at list e = rw e
 
--- a group: its set of tiers, and the list before and after its entries are tried
-module _ (cells : List ℕ) (groups : ℕ) (ranking : List ℕ) (o : Once tiers ranking) (n : length ranking ≡ tiers) (k : ℕ) (l : k < groups) {set : ℕ} (h : set ≡ setOf (row cells k)) where
-  own-ones : length (those (shownBy cells ranking) (map (entry k) ranks)) ≡ ones set
-  own-ones =
-      sym (length-map (those (shownBy cells ranking) (map (entry k) ranks)) (ofRank ranking)) ∙ ap length (group-are ranking o n cells k)
-      ∙ row-ones ranking o cells k ∙ ap ones (sym h)
+-- a group: its entries tried, and counted where they have a line
+module _ (test : ℕ → Bool) (groups : ℕ) (ranking : List ℕ) (k : ℕ) (l : k < groups) where
+  pub count-step : length (those test (later groups ranking k)) ≡ length (those test (map (entry k) ranking)) + length (those test (later groups ranking (k + 1)))
+  count-step = rw (later-step groups ranking k l, those-append test (map (entry k) ranking) (later groups ranking (k + 1)), length-append)
 
-  pub count-step : length (those (shownBy cells ranking) (later groups ranks k)) ≡ ones set + length (those (shownBy cells ranking) (later groups ranks (k + 1)))
-  count-step =
-      rw (later-step groups ranks k l, those-append (shownBy cells ranking) (map (entry k) ranks) (later groups ranks (k + 1)), length-append, own-ones)
+  pub group-few : length (those test (map (entry k) ranking)) ≤ length ranking
+  group-few = omega (arith, those-sum test (λ _. 1) (map (entry k) ranking), sum-length (those test (map (entry k) ranking)), sum-length (map (entry k) ranking), length-map ranking (entry k))
 
   pub list-step :
-      (at : ℕ) (list next : List ℕ) → next ≡ tried (shownBy cells ranking) at (map (entry k) ranks) list
-      → tried (shownBy cells ranking) at (later groups ranks k) list ≡ tried (shownBy cells ranking) (at + ones set) (later groups ranks (k + 1)) next
+      (at : ℕ) (list next : List ℕ) → next ≡ tried test at (map (entry k) ranking) list
+      → tried test at (later groups ranking k) list ≡ tried test (at + length (those test (map (entry k) ranking))) (later groups ranking (k + 1)) next
   list-step at list next q =
-      rw (later-step groups ranks k l)
-      (tried-append (shownBy cells ranking) (map (entry k) ranks) (later groups ranks (k + 1)) at list
-      ∙ ap₂ (λ (m : ℕ) (r : List ℕ). tried (shownBy cells ranking) (at + m) (later groups ranks (k + 1)) r) own-ones (sym q))
+      rw (later-step groups ranking k l)
+      (tried-append test (map (entry k) ranking) (later groups ranking (k + 1)) at list
+      ∙ ap (tried test (at + length (those test (map (entry k) ranking))) (later groups ranking (k + 1))) (sym q))
 
 -- ---- the sets of the groups' tiers
 
@@ -88,20 +81,8 @@ module _ (cells : List ℕ) where
     abbrev pub allSets : List ℕ
     allSets = map setAt (countFrom 0 groups)
 
-    abbrev pub laterSets : ℕ → List ℕ
-    laterSets k = map setAt (numbers groups k)
-
     pub sets-long : length allSets ≡ groups
     sets-long = length-map (countFrom 0 groups) setAt ∙ length-count 0 groups
-
-    pub sets-first : allSets ≡ laterSets 0
-    sets-first = let q : groups ≡ groups - 0 = omega arith in ap (λ (n : ℕ). map setAt (countFrom 0 n)) q
-
-    pub sets-step : (k : ℕ) → k < groups → laterSets k ≡ (setAt k ∷ []) ++ laterSets (k + 1)
-    sets-step k l = rw (numbers-step groups k l)
-
-    pub sets-end : (k : ℕ) → groups ≤ k → laterSets k ≡ []
-    sets-end k l = rw (numbers-end groups k l)
 
     -- each group's set, where they are placed
     pub set-each : (before : List ℕ) {after : List ℕ} → after ≡ placed before 0 allSets → (k : ℕ) → k < groups → getD after k 0 ≡ setAt k
@@ -111,7 +92,3 @@ module _ (cells : List ℕ) where
         (ap (λ (j : ℕ). getD (placed before 0 allSets) j 0) (sym q)
         ∙ read-in (take 0 before) allSets (drop (0 + length allSets) before) 0 refl k (omega (arith, sets-long))
         ∙ count-at setAt 0 groups k l ∙ ap setAt q)
-
--- a store is a piece of one entry
-pub set-placed : (l : List ℕ) (k v w : ℕ) → v ≡ w → k < length l → set l k v ≡ placed l k (w ∷ [])
-set-placed l k v w e h = rw e (stored (w ∷ []) l k (omega arith))

@@ -1,8 +1,10 @@
 pub mod Tries
 pub mod Entries
 pub mod Ranks
+pub mod Bits
 pub mod Along
 pub mod Among
 pub mod Heads
 pub mod Turn
 pub mod Groups
+pub mod Sets

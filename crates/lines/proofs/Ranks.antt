@@ -13,7 +13,7 @@ use Rattle.cascade.specs.Promise.{Once}
 use Rattle.cascade.proofs.Lists.{all-at}
 use Rattle.rows.specs.Rows.{row}
 use Rattle.lines.specs.Listing.{entry, groupIn, tierIn, shown, allEntries, entriesOf, ranks, ofRank, shownBy}
-use Rattle.lines.proofs.Entries.{group-in, tier-in, exposure-in, groupEntries}
+use Rattle.lines.proofs.Entries.{group-in, tier-in, exposure-in}
 
 -- ---- lists
 
@@ -64,7 +64,7 @@ module _ (ranking : List ℕ) (o : Once tiers ranking) (n : length ranking ≡ t
   pub shown-at : (cells : List ℕ) (k i : ℕ) → i < tiers → shownBy cells ranking (entry k i) ≡ (0 <? byTier (row cells k) (getD ranking i 0))
   shown-at cells k i l = ap (shown cells) (of-entry k i l) ∙ ap (λ (x : ℕ). 0 <? x) (exposure-in k (getD ranking i 0) (rank-few i l) cells)
 
-  ranks-are : map (λ i. getD ranking i 0) ranks ≡ ranking
+  pub ranks-are : map (λ i. getD ranking i 0) ranks ≡ ranking
   ranks-are =
       let long : length (map (λ i. getD ranking i 0) ranks) ≡ tiers = length-map ranks (λ i. getD ranking i 0) ∙ length-count 0 tiers in
       ext-getD 0 (map (λ i. getD ranking i 0) ranks) ranking (long ∙ sym n) (λ i l. count-at (λ i. getD ranking i 0) 0 tiers i (omega (arith, long)) ∙ ap (λ (j : ℕ). getD ranking j 0) (omega arith))
@@ -81,10 +81,7 @@ module _ (ranking : List ℕ) (o : Once tiers ranking) (n : length ranking ≡ t
       map-each (ofRank ranking) (λ k. map (entry k) ranks) (countFrom 0 groups)
       ∙ each-same (λ k. map (ofRank ranking) (map (entry k) ranks)) (λ k. map (entry k) ranking) (countFrom 0 groups) (all-map (λ k _. group-ranks k) (countFrom 0 groups) (all-count 0 groups))
 
-  -- those of a group and of all groups that have a line
-  pub group-are : (cells : List ℕ) (k : ℕ) → map (ofRank ranking) (those (shownBy cells ranking) (map (entry k) ranks)) ≡ groupEntries cells ranking k
-  group-are cells k = those-mapped (shown cells) (ofRank ranking) (map (entry k) ranks) ∙ ap (those (shown cells)) (group-ranks k)
-
+  -- those that have a line
   pub entries-are : (cells : List ℕ) (groups : ℕ) → map (ofRank ranking) (those (shownBy cells ranking) (allEntries groups ranks)) ≡ entriesOf cells groups ranking
   entries-are cells groups = those-mapped (shown cells) (ofRank ranking) (allEntries groups ranks) ∙ ap (those (shown cells)) (all-ranks groups)
 

@@ -49,6 +49,16 @@ module _ (test : ℕ → Bool) where
       by true e = omega arith
       by false e = omega arith
 
+  pub those-if : (f : ℕ → ℕ) (xs : List ℕ) → sumOf f (those test xs) ≡ sumOf (λ x. if test x then f x else 0) xs
+  unfolding those sumOf
+  those-if f [] = refl
+  those-if f (x ∷ xs) = by (test x) (those-if f xs)
+    where
+      by : (b : Bool) → sumOf f (those test xs) ≡ sumOf (λ x. if test x then f x else 0) xs
+          → sumOf f (if b then x ∷ those test xs else those test xs) ≡ (if b then f x else 0) + sumOf (λ x. if test x then f x else 0) xs
+      by true e = omega arith
+      by false e = omega arith
+
   pub those-sum : (f : ℕ → ℕ) (xs : List ℕ) → sumOf f (those test xs) ≤ sumOf f xs
   unfolding those sumOf
   those-sum f [] = omega arith

@@ -1,4 +1,4 @@
--- One turn of the listing of a group: a rank is tried, and its tier's bit goes to the set.
+-- One turn of the listing of a group: a rank is tried, and counted where it has a line.
 use mathlib.Core.Path.{_≡_, ap, _∙_}
 use mathlib.Core.Bool.{Bool, true, false}
 use mathlib.Core.List.{List, _∷_, map}
@@ -6,30 +6,19 @@ use Prim.Native.Nat.{ℕ, zero, suc, _+_, _*_, _%_, _^_, _≤_, _<_}
 use native.Mathlib.Omega.{arith}
 use native.Mathlib.Numerals.{add-one}
 use lib.ListN.{length, drop, getD, set, drop-of-length-le}
-use lib.Pow.{pow-mono}
 use lib.Seq.{drop-cons}
-use Rattle.words.specs.Words.{_<?_, if_then_else_, sumOf, countFrom}
+use Rattle.words.specs.Words.{_<?_, if_then_else_, those, countFrom}
 use Rattle.words.specs.Sums.{length-count}
 use Rattle.cascade.specs.Cascade.{tiers, byTier}
 use Rattle.cascade.specs.Promise.{Once}
-use Rattle.figures.proofs.Size.{bits-lt}
 use Rattle.rows.specs.Rows.{columns, row, row-at}
-use Rattle.lines.specs.Table.{setOf}
 use Rattle.lines.specs.Listing.{entry, ranks, shownBy, tried}
 use Rattle.lines.proofs.Ranks.{rank-few, shown-at}
 
--- a tier's bit
-abbrev pub bitIn : List ℕ → ℕ → ℕ
-bitIn exposures t = if 0 <? byTier exposures t then 2 ^ t else 0
-
-pub set-small : (exposures : List ℕ) → setOf exposures < 65536
-unfolding setOf
-set-small exposures = bits-lt (λ t. 0 <? byTier exposures t) tiers
-
 -- none is left behind the last rank
-pub bits-end : (exposures ranking : List ℕ) (i : ℕ) → length ranking ≤ i → sumOf (bitIn exposures) (drop i ranking) ≡ 0
-unfolding sumOf
-bits-end exposures ranking i l = rw (drop-of-length-le ranking {i = i} l)
+pub counted-end : (cells ranking : List ℕ) (k i : ℕ) → tiers ≤ i → length (those (shownBy cells ranking) (map (entry k) (drop i ranks))) ≡ 0
+unfolding those
+counted-end cells ranking k i l = rw (drop-of-length-le ranks {i = i} (omega (arith, length-count 0 tiers)))
 
 pub tried-end : (cells ranking : List ℕ) (k i place : ℕ) (list : List ℕ) → tiers ≤ i → tried (shownBy cells ranking) place (map (entry k) (drop i ranks)) list ≡ list
 unfolding tried
@@ -53,10 +42,6 @@ module _ (cells ranking : List ℕ) (k : ℕ) (o : Once tiers ranking) (n : leng
   pub read-is : {some : ℕ} → some ≡ (if 0 <? getD cells (columns * k + t) 0 then 1 else 0) → some ≡ (if 0 <? byTier (row cells k) t then 1 else 0)
   read-is e = rw (row-at cells k t tier-few) e
 
-  pub bits-step : sumOf (bitIn (row cells k)) (drop i ranking) ≡ bitIn (row cells k) t + sumOf (bitIn (row cells k)) (drop (i + 1) ranking)
-  unfolding sumOf
-  bits-step = rw (drop-cons ranking i 0 (omega arith), add-one)
-
   first : drop i ranks ≡ i ∷ drop (i + 1) ranks
   first = rw (drop-cons ranks i 0 (omega (arith, length-count 0 tiers)), add-one) (ap (λ (r : ℕ). r ∷ drop (suc i) ranks) (rank-at 0 tiers i l ∙ omega arith))
 
@@ -72,10 +57,14 @@ module _ (cells ranking : List ℕ) (k : ℕ) (o : Once tiers ranking) (n : leng
       moved true q r = rw (r, q)
       moved false q r = rw (r, q) (omega arith)
 
-  -- the bit, as the code shifts it
-  pub shifted : (some : ℕ) → some ≡ (if 0 <? byTier (row cells k) t then 1 else 0) → some * 2 ^ t % 2 ^ 64 ≡ bitIn (row cells k) t
-  shifted some e = by (0 <? byTier (row cells k) t) e (pow-mono {j = 15} (omega (arith, tier-few)))
+  pub counted-step :
+      (some : ℕ) → some ≡ (if 0 <? byTier (row cells k) t then 1 else 0)
+      → length (those (shownBy cells ranking) (map (entry k) (drop i ranks))) ≡ some + length (those (shownBy cells ranking) (map (entry k) (drop (i + 1) ranks)))
+  unfolding those
+  counted-step some e = rw first (by (0 <? byTier (row cells k) t) e (shown-at ranking o n cells k i l))
     where
-      by : (b : Bool) → some ≡ (if b then 1 else 0) → 2 ^ t ≤ 32768 → some * 2 ^ t % 2 ^ 64 ≡ (if b then 2 ^ t else 0)
-      by true q h = rw q (omega arith)
-      by false q h = rw q (omega arith)
+      by : (b : Bool) → some ≡ (if b then 1 else 0) → shownBy cells ranking (entry k i) ≡ b
+          → length (if shownBy cells ranking (entry k i) then entry k i ∷ those (shownBy cells ranking) (map (entry k) (drop (i + 1) ranks)) else those (shownBy cells ranking) (map (entry k) (drop (i + 1) ranks)))
+          ≡ some + length (those (shownBy cells ranking) (map (entry k) (drop (i + 1) ranks)))
+      by true q r = rw (r, q) (omega arith)
+      by false q r = rw (r, q) (omega arith)

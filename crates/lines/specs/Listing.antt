@@ -3,6 +3,7 @@
 --   exposureIn shown       the exposure of an entry, and whether it has a line
 --   allEntries entriesOf   the entries of all tiers of the groups, and those that have a line
 --   ranks ofRank shownBy   entries by rank in the place of the tier; the entry of the tier of that rank, and whether that has a line
+--   bitFor                 what an entry by rank adds to the set of a group
 --   tried                  a list, where entries are put at the place reached
 --   Source                 what the figures of a line are taken from
 --   entryLine              the line of an entry, by what stands before it
@@ -10,7 +11,7 @@
 --   noGroup entriesIn listedLines   the entries of a list's first entries by rank, and their lines, before which nothing stands
 use mathlib.Core.Bool.{Bool}
 use mathlib.Core.List.{List, [], _∷_, map}
-use Prim.Native.Nat.{ℕ, _+_, _*_, _/_, _%_}
+use Prim.Native.Nat.{ℕ, _+_, _*_, _/_, _%_, _^_}
 use lib.ListN.{getD, set, take}
 use Rattle.words.specs.Words.{_<?_, _=?_, if_then_else_, eachOf, those, countFrom}
 use Rattle.cascade.specs.Cascade.{tiers, byTier, leftAt, excessAt, next}
@@ -51,6 +52,10 @@ ofRank ranking e = entry (groupIn e) (getD ranking (tierIn e) 0)
 
 abbrev pub shownBy : List ℕ → List ℕ → ℕ → Bool
 shownBy cells ranking e = shown cells (ofRank ranking e)
+
+-- its tier's bit, where it is of group number k: "bit n is tier n"
+abbrev pub bitFor : List ℕ → ℕ → ℕ → ℕ
+bitFor ranking k e = if groupIn e =? k then 2 ^ getD ranking (tierIn e) 0 else 0
 
 -- each entry is put at the place reached, which moves on behind those that pass the test; the others are overwritten
 unfoldable pub tried : (ℕ → Bool) → ℕ → List ℕ → List ℕ → List ℕ

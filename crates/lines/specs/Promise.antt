@@ -1,4 +1,6 @@
 -- What `list_lines` and `writing::put_report` start from and promise.
+--   Groups         what the entries of groups are listed from
+--   Adds Added     entries whose bits can be added to the sets of their groups, and are
 --   Listable       what a listing starts from
 --   Listed         the number of lines, the sets of the groups' tiers, and the list of entries
 --   allExposures   all exposures of the groups in the tiers
@@ -21,13 +23,32 @@ use Rattle.figures.specs.declared.Figures.{Figures}
 use Rattle.figures.specs.Report.{headSize, lineSize, linesOf, report}
 use Rattle.rows.specs.Rows.{mostGroups, columns, row}
 use Rattle.lines.specs.Table.{setOf, Heads, tableFund}
-use Rattle.lines.specs.Listing.{groupIn, tierIn, exposureIn, allEntries, entriesOf, ranks, shownBy, tried, Source, entriesIn}
+use Rattle.lines.specs.Listing.{groupIn, tierIn, exposureIn, allEntries, entriesOf, ranks, shownBy, bitFor, tried, Source, entriesIn}
 
--- a row to each group, an entry of sets to each, and room for an entry to each tier
+-- a row to each group, and room for an entry to each tier
+pub record Groups (cells : List ℕ) (groups : ℕ) (ranking list : List ℕ) : Type 0 where
+  pub few : groups ≤ mostGroups
+  pub rows : columns * groups ≤ length cells
+  pub room : tiers * groups ≤ length list
+  pub ranks : Once tiers ranking
+
+-- the first n entries of a list by rank, each of a group that has a set, and sets of 16 bits with all their bits added
+pub record Adds (list : List ℕ) (n : ℕ) (ranking sets : List ℕ) : Type 0 where
+  pub ranks : Once tiers ranking
+  pub long : n ≤ length list
+  pub inside : (i : ℕ) → i < n → groupIn (getD list i 0) < length sets
+  pub fit : (k : ℕ) → getD sets k 0 + sumOf (bitFor ranking k) (take n list) < 65536
+
+pub record Added (list : List ℕ) (n : ℕ) (ranking before after : List ℕ) : Type 0 where
+  pub size : length after ≡ length before
+  pub each : (k : ℕ) → getD after k 0 ≡ getD before k 0 + sumOf (bitFor ranking k) (take n list)
+
+-- a row to each group, an empty set to each, and room for an entry to each tier
 pub record Listable (cells : List ℕ) (groups : ℕ) (ranking sets list : List ℕ) : Type 0 where
   pub few : groups ≤ mostGroups
   pub rows : columns * groups ≤ length cells
   pub places : groups ≤ length sets
+  pub empty : (k : ℕ) → getD sets k 0 ≡ 0
   pub room : tiers * groups ≤ length list
   pub ranks : Once tiers ranking
 

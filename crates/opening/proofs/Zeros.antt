@@ -44,7 +44,7 @@ pub zero-cells : (groups g : ℕ) → groups ≤ g → Zeros groups (replicate (
 zero-cells groups g h = record { size = omega (arith, long (columns * g)); each = at-zeros (columns * g) }
 
 pub zero-room : (groups g : ℕ) → groups ≤ g → Room groups (replicate g 0) (replicate (tiers * g) 0)
-zero-room groups g h = record { of-sets = omega (arith, long g); of-list = omega (arith, long (tiers * g)) }
+zero-room groups g h = record { of-sets = omega (arith, long g); empty = at-zeros g; of-list = omega (arith, long (tiers * g)) }
 
 -- there are no more groups than counterparties
 pub groups-le : (b : List ℕ) {groups : ℕ} → groups ≡ topsTo b (C b) → groups ≤ C b

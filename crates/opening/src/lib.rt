@@ -381,8 +381,11 @@ fn accepted(schedule: &[u8], book: &[u8], wanted: Wanted, asked: &[u8], lent: &m
     if (c <= SMALL) & (n <= 4 * SMALL) & (k <= 4 * SMALL) {
         return small(schedule, book, c, wanted, asked, lent);
     }
-    if (c <= MEDIUM) & (n <= 4 * MEDIUM) & (k <= 4 * MEDIUM) {
-        return medium(schedule, book, c, wanted, asked, lent);
+    if c <= MEDIUM {
+        if (n <= 4 * MEDIUM) & (k <= 4 * MEDIUM) {
+            return medium(schedule, book, c, wanted, asked, lent);
+        }
+        return large(schedule, book, c, wanted, asked, lent);
     }
     large(schedule, book, c, wanted, asked, lent)
 }

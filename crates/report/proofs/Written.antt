@@ -139,6 +139,7 @@ module _ {b heads : List ℕ} (H : Headed b heads) {groups : ℕ} (eg : groups �
         few = omega (arith, tops-le b (C b), acc .counterparties);
         rows = e .size;
         places = q .of-sets;
+        empty = q .empty;
         room = q .of-list;
         ranks = rw (d .ranking) (ranked-once ranks tiers);
       }

@@ -5,8 +5,7 @@ use mathlib.Core.List.{List, _++_, map}
 use Prim.Native.Nat.{ℕ, _+_, _*_, _-_, _≤_}
 use native.Mathlib.Omega.{arith}
 use lib.ListN.{length, take, drop}
-use Rattle.words.specs.Words.{sumOf, those, countFrom}
-use Rattle.words.specs.Sums.{length-count}
+use Rattle.words.specs.Words.{sumOf, those}
 use Rattle.wire.specs.Bytes.{M, placed}
 use Rattle.wire.proofs.Laws.{placed-before}
 use Rattle.cascade.specs.Cascade.{tiers, byTier, ranked}
@@ -22,13 +21,13 @@ use Rattle.figures.proofs.Least.{excess-lines}
 use Rattle.figures.proofs.Written.{head-long}
 use Rattle.figures.proofs.Size.{joined-long}
 use Rattle.lines.specs.Table.{Heads, tableFund}
-use Rattle.lines.specs.Listing.{exposureIn, allEntries, ranks, ofRank, shownBy, tried, Source, linesAlong, noGroup, entriesIn, listedLines}
+use Rattle.lines.specs.Listing.{exposureIn, allEntries, ranks, ofRank, shownBy, Source, linesAlong, noGroup, entriesIn, listedLines}
 use Rattle.lines.specs.Promise.{Listable, Listed, Entries, Table, allExposures}
-use Rattle.lines.proofs.Tries.{tried-long, tried-first}
-use Rattle.lines.proofs.Entries.{all-long, all-inside, entries-few, entries-sum}
+use Rattle.lines.proofs.Entries.{all-inside, entries-few, entries-sum}
 use Rattle.lines.proofs.Along.{along-long, along-within}
 use Rattle.lines.proofs.Heads.{lines-along}
 use Rattle.lines.proofs.Groups.{set-each}
+use Rattle.lines.proofs.Sets.{listed-size, entries-first}
 use Rattle.writing.proofs.Writing.{excesses, entries-long}
 use Rattle.lines.proofs.Ranks.{entries-are, entries-many}
 
@@ -113,11 +112,7 @@ pub listed-table :
 listed-table order S o q {groups} {sets₀} {list₀} {list} {n} a l size tops few =
     let by-rank = ranked order tiers in
     let long = length-ranked order tiers in
-    let shows = shownBy (S .cells) by-rank in
-    let z : 0 + length (those shows (allEntries groups ranks)) ≡ n = omega (arith, l .count, entries-many by-rank (a .ranks) long (S .cells) groups) in
-    let all : length (allEntries groups ranks) ≡ tiers * groups = all-long ranks (length-count 0 tiers) groups in
-    let first : take n list ≡ those shows (allEntries groups ranks) =
-    ap (take n) (l .entries) ∙ ap (λ (k : ℕ). take k (tried shows 0 (allEntries groups ranks) list₀)) (sym z) ∙ tried-first shows (allEntries groups ranks) 0 list₀ (omega (arith, a .room)) in
+    let n-is : n ≡ length (those (shownBy (S .cells) by-rank) (allEntries groups ranks)) = l .count ∙ sym (entries-many by-rank (a .ranks) long (S .cells) groups) in
     record {
       ordered = o;
       by-rank = q;
@@ -125,8 +120,8 @@ listed-table order S o q {groups} {sets₀} {list₀} {list} {n} a l size tops f
       rows = a .rows;
       places = omega (arith, a .places);
       tops = tops;
-      long = omega (arith, ap length (l .entries), tried-long shows (allEntries groups ranks) 0 list₀, l .few, a .room);
+      long = omega (arith, listed-size a long n-is (l .entries), l .few, a .room);
       each = set-each (S .cells) groups sets₀ (l .tierSets);
-      entries = ap₂ (λ (r es : List ℕ). map (ofRank r) es) q first ∙ entries-are by-rank (a .ranks) long (S .cells) groups;
+      entries = ap₂ (λ (r es : List ℕ). map (ofRank r) es) q (entries-first a long n-is (l .entries)) ∙ entries-are by-rank (a .ranks) long (S .cells) groups;
       amounts = few;
     }
