@@ -10,17 +10,12 @@ use Rattle.words.specs.Words.{_<?_, if_then_else_, eachOf, those, countFrom, Al
 use Rattle.words.specs.Sums.{each-same, all-map, all-count, length-count, count-at}
 use Rattle.cascade.specs.Cascade.{tiers, byTier}
 use Rattle.cascade.specs.Promise.{Once}
-use Rattle.cascade.proofs.Lists.{all-at}
 use Rattle.rows.specs.Rows.{row}
+use Rattle.rows.proofs.Ranked.{rank-few}
 use Rattle.lines.specs.Listing.{entry, groupIn, tierIn, shown, allEntries, entriesOf, ranks, ofRank, shownBy}
 use Rattle.lines.proofs.Entries.{group-in, tier-in, exposure-in}
 
 -- ---- lists
-
-pub map-at : (f : ℕ → ℕ) (xs : List ℕ) (i : ℕ) → i < length xs → getD (map f xs) i 0 ≡ f (getD xs i 0)
-map-at f [] i l = absurd (omega arith)
-map-at f (x ∷ xs) zero l = refl
-map-at f (x ∷ xs) (suc i) l = map-at f xs i (omega arith)
 
 map-both : (f g h : ℕ → ℕ) (xs : List ℕ) → All (λ x. f (g x) ≡ h x) xs → map f (map g xs) ≡ map h xs
 map-both f g h [] q = refl
@@ -48,21 +43,18 @@ those-mapped test f (e ∷ es) = by (test (f e)) (those-mapped test f es)
 -- ---- entries
 
 module _ (ranking : List ℕ) (o : Once tiers ranking) (n : length ranking ≡ tiers) where
-  pub rank-few : (i : ℕ) → i < tiers → getD ranking i 0 < tiers
-  rank-few i l = all-at (λ t. t < tiers) ranking (o .inside) i (omega arith)
-
   pub rank-group : (e : ℕ) → groupIn (ofRank ranking e) ≡ groupIn e
-  rank-group e = group-in (groupIn e) _ (rank-few (tierIn e) (omega arith))
+  rank-group e = group-in (groupIn e) _ (rank-few ranking o n (tierIn e) (omega arith))
 
   pub rank-tier : (e : ℕ) → tierIn (ofRank ranking e) ≡ getD ranking (tierIn e) 0
-  rank-tier e = tier-in (groupIn e) _ (rank-few (tierIn e) (omega arith))
+  rank-tier e = tier-in (groupIn e) _ (rank-few ranking o n (tierIn e) (omega arith))
 
   of-entry : (k i : ℕ) → i < tiers → ofRank ranking (entry k i) ≡ entry k (getD ranking i 0)
   of-entry k i l = ap₂ (λ (j r : ℕ). entry j (getD ranking r 0)) (group-in k i l) (tier-in k i l)
 
   -- the test of a rank is that of its tier's exposure
   pub shown-at : (cells : List ℕ) (k i : ℕ) → i < tiers → shownBy cells ranking (entry k i) ≡ (0 <? byTier (row cells k) (getD ranking i 0))
-  shown-at cells k i l = ap (shown cells) (of-entry k i l) ∙ ap (λ (x : ℕ). 0 <? x) (exposure-in k (getD ranking i 0) (rank-few i l) cells)
+  shown-at cells k i l = ap (shown cells) (of-entry k i l) ∙ ap (λ (x : ℕ). 0 <? x) (exposure-in k (getD ranking i 0) (rank-few ranking o n i l) cells)
 
   pub ranks-are : map (λ i. getD ranking i 0) ranks ≡ ranking
   ranks-are =

@@ -13,7 +13,8 @@ use Rattle.cascade.specs.Cascade.{tiers, byTier}
 use Rattle.cascade.specs.Promise.{Once}
 use Rattle.rows.specs.Rows.{columns, row, row-at}
 use Rattle.lines.specs.Listing.{entry, ranks, shownBy, tried}
-use Rattle.lines.proofs.Ranks.{rank-few, shown-at}
+use Rattle.rows.proofs.Ranked.{rank-few}
+use Rattle.lines.proofs.Ranks.{shown-at}
 
 -- none is left behind the last rank
 pub counted-end : (cells ranking : List ℕ) (k i : ℕ) → tiers ≤ i → length (those (shownBy cells ranking) (map (entry k) (drop i ranks))) ≡ 0

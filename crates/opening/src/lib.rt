@@ -369,7 +369,8 @@ fn large(
     )
 }
 
-// What is wanted of a book that refusals 1 to 13 and 17 let pass.
+// What is wanted of a book that refusals 1 to 13 and 17 let pass. `large` is called at two places, so that it stays a function of its own: put into this
+// one, its tables of 150 KB would have every call touch that much of the stack first.
 fn accepted(schedule: &[u8], book: &[u8], wanted: Wanted, asked: &[u8], lent: &mut [u8]) -> Answer
     requires { ⌜ Passed (now schedule) (now book) ⌝ }
     ensures { λ r. ⌜ Promised wanted (now (schedule .entry)) (now (book .entry)) (now (asked .entry)) (now (lent .entry)) (now (lent .exit)) r ⌝ }

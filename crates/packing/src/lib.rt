@@ -26,7 +26,11 @@ pub fn pack(answer: Answer) -> u64
 {
     match answer {
         Answer::Written(length) => length as u64,
-        Answer::Refused(why) => refusal::number(why) * 4294967296 + refusal::place(why),
+        Answer::Refused(why) => {
+            let number = refusal::number(why);
+            let place = refusal::place(why);
+            number * 4294967296 + place
+        }
     }
 }
 

@@ -18,7 +18,7 @@ use Rattle.figures.proofs.Size.{joined-long}
 use Rattle.lines.specs.Listing.{groupIn, tierIn, exposureIn, ofRank, Source, source, before, entryLine, linesAlong, entriesIn}
 use Rattle.lines.specs.Promise.{Inside, Entries}
 use Rattle.lines.proofs.Along.{along-long}
-use Rattle.lines.proofs.Ranks.{map-at}
+use Rattle.rows.proofs.Ranked.{map-at}
 
 -- the excesses of lines summed
 abbrev pub excesses : List Line → ℕ

@@ -4,33 +4,15 @@ use figures::Figures;
 use figures::Head;
 use figures::Line;
 ghost use mathlib.Core.Path.{_≡_};
-ghost use mathlib.Core.List.{map};
 ghost use lib.ListN.{length};
 ghost use Rattle.words.specs.Words.{sumOf};
 ghost use Rattle.wire.specs.Bytes.{placed};
-ghost use Rattle.cascade.specs.Cascade.{tiers, byTier};
-ghost use Rattle.cascade.specs.Promise.{Once};
 ghost use Rattle.figures.specs.Report.{headSize, joined};
 ghost use Rattle.lines.specs.Listing.{source, listedLines};
 ghost use Rattle.lines.specs.Promise.{Entries, Ready, Reported};
 
 // No group has this number.
 const NONE: usize = 65535;
-
-// Amounts by tier, ranked into a new array.
-fn by_rank(amounts: [u64; TIERS], ranking: [usize; TIERS]) -> [u64; TIERS]
-    requires { ⌜ Once tiers ranking ⌝ }
-    ensures { λ r. ⌜ r ≡ map (byTier amounts) ranking ⌝ }
-{
-    let mut out = [0u64; TIERS];
-    let mut i = 0;
-    while i < TIERS {
-        let t = ranking[i];
-        out[i] = amounts[t];
-        i += 1;
-    }
-    out
-}
 
 // The lines along a list of entries, behind the header; their excesses summed. Limits and the group's exposures are arrays by rank, the exposures ranked
 // anew where the group changes; there nothing stands.
@@ -47,7 +29,7 @@ fn put_list(
     requires { ⌜ Entries (source limits ranking (now cells) (now sets) (now heads)) (now list) lines (length (now d)) ⌝ }
     ensures { λ r. ⌜ (r ≡ sumOf (λ x. x .excess) (listedLines (source limits ranking (now (cells .entry)) (now (sets .entry)) (now (heads .entry))) (now (list .entry)) lines)) × (now (d .exit) ≡ placed (now (d .entry)) headSize (joined (listedLines (source limits ranking (now (cells .entry)) (now (sets .entry)) (now (heads .entry))) (now (list .entry)) lines))) ⌝ }
 {
-    let ranked = by_rank(limits, ranking);
+    let ranked = rows::by_rank(limits, ranking);
     let mut exposures = [0u64; TIERS];
     let mut excesses: u64 = 0;
     let mut standing: u64 = 0;
@@ -59,7 +41,7 @@ fn put_list(
         let k = entry / TIERS;
         let rank = entry % TIERS;
         if k != last {
-            exposures = by_rank(rows::row_of(cells, k), ranking);
+            exposures = rows::by_rank(rows::row_of(cells, k), ranking);
             standing = 0;
         }
         let cut = cascade::cut(ranked[rank], exposures[rank], standing);

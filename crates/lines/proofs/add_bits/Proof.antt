@@ -7,7 +7,7 @@ use lib.ListN.{length, take, getD, length-set}
 use Rattle.words.specs.Words.{sumOf}
 use Rattle.cascade.specs.Cascade.{tiers}
 use Rattle.lines.specs.Listing.{groupIn, tierIn, bitFor}
-use Rattle.lines.proofs.Ranks.{rank-few}
+use Rattle.rows.proofs.Ranked.{rank-few}
 use Rattle.lines.proofs.Bits.{shifted, bits-next, bits-within, own-bit, added-bit}
 use borrow.Author.Needs.{needs}
 use Rattle.lines.proofs.add_bits.Statement.{statement}

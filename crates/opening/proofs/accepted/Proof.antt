@@ -23,15 +23,20 @@ small-requires c κs =
 
 medium-requires : tie.Need-medium-requires
 medium-requires c κs =
-    let s = c .before .before .before .before .before .before .before .before .before .before .before in
-    let n = header-counts (now (s .args .book)) (c .before .before .before .before .before .before .header-at .ensures) in
-    let t = both _ _ (c .before .if2 .taken) in
-    let u = both _ _ (t .0) in
-    (s .pre, n .0, record { counterparties = rw (← n .0) (leb-true _ _ (u .0)); assets = rw (← n .1) (leb-true _ _ (u .1)); mitigants = rw (← n .2) (leb-true _ _ (t .1)) })
+    let s = c .before .before .before .before .before .before .before .before .before .before .before .before in
+    let n = header-counts (now (s .args .book)) (c .before .before .before .before .before .before .before .header-at .ensures) in
+    let t = both _ _ (c .before .if3 .taken) in
+    (s .pre, n .0, record { counterparties = rw (← n .0) (c .before .before .if2 .taken); assets = rw (← n .1) (leb-true _ _ (t .0)); mitigants = rw (← n .2) (leb-true _ _ (t .1)) })
 
 large-requires : tie.Need-large-requires
 large-requires c κs =
-    let s = c .before .before .before .before .before .before .before .before .before .before .before in (s .pre, header-counts (now (s .args .book)) (c .before .before .before .before .before .before .header-at .ensures) .0)
+    let s = c .before .before .before .before .before .before .before .before .before .before .before .before in
+    (s .pre, header-counts (now (s .args .book)) (c .before .before .before .before .before .before .before .header-at .ensures) .0)
+
+large-requires-2 : tie.Need-large-requires-2
+large-requires-2 c κs =
+    let s = c .before .before .before .before .before .before .before .before .before .before .before in
+    (s .pre, header-counts (now (s .args .book)) (c .before .before .before .before .before .before .header-at .ensures) .0)
 
 pub accepted-spec : {M : Type 1} → statement M
 accepted-spec =
@@ -52,5 +57,8 @@ accepted-spec =
     (λ c. search needs)
     (λ c. search needs)
     large-requires
+    (λ c. search needs)
+    (λ c. search needs)
+    large-requires-2
     (λ c. search needs)
     (λ c. search needs))

@@ -20,7 +20,8 @@ use Rattle.rows.specs.Rows.{row}
 use Rattle.lines.specs.Listing.{groupIn, tierIn, exposureIn, ofRank, Source, source, before, entryLine, linesAlong, noGroup, entriesIn, listedLines}
 use Rattle.lines.specs.Promise.{Inside}
 use Rattle.lines.proofs.Entries.{exposure-in}
-use Rattle.lines.proofs.Ranks.{map-at, rank-few, rank-group, rank-tier}
+use Rattle.rows.proofs.Ranked.{map-at, rank-few}
+use Rattle.lines.proofs.Ranks.{rank-group, rank-tier}
 use Rattle.layout.proofs.Putting.{Putting, put-start, put-piece, put-end, line-placed}
 use Rattle.writing.proofs.Writing.{excesses as excessesOf, any-limits, same-outcome, outcomeIn, line-of, standing-is, excess-is, kept, rest, lines-fit, lines-end, entry-inside, exposure-step, excess-step, bytes-step}
 use borrow.Author.Needs.{needs}

@@ -1,4 +1,4 @@
--- `by_rank` meets its contract. The loop's invariant: the entries below i are the amounts of the tiers of those ranks.
+-- `by_rank` meets its contract. The loop's invariant: the entries below the rank are the amounts of the tiers of those ranks.
 use mathlib.Core.Path.{_≡_, refl, sym, _∙_}
 use mathlib.Core.List.{map}
 use Prim.Native.Nat.{ℕ, _-_, _≤_, _<_}
@@ -6,31 +6,31 @@ use native.Mathlib.Omega.{arith}
 use lib.ListN.{length, getD, length-set, length-map}
 use lib.Seq.{ext-getD}
 use Rattle.cascade.specs.Cascade.{tiers, byTier}
 use Rattle.rows.proofs.Filling.{fill-more}
-use Rattle.lines.proofs.Ranks.{map-at, rank-few}
+use Rattle.rows.proofs.Ranked.{map-at, rank-few}
 use borrow.Author.Needs.{needs}
-use Rattle.writing.proofs.by_rank.Statement.{statement}
-use Rattle.writing.proofs.by_rank.Tie as tie
+use Rattle.rows.proofs.by_rank.Statement.{statement}
+use Rattle.rows.proofs.by_rank.Tie as tie
 
 abbrev Inv-loop : tie.InvT-loop
-Inv-loop amounts ranking out₀ i₀ out i = (i ≤ tiers) × (length out ≡ tiers) × ((u : ℕ) → u < i → getD out u 0 ≡ byTier amounts (getD ranking u 0))
+Inv-loop amounts ranking out₀ rank₀ out rank = (rank ≤ tiers) × (length out ≡ tiers) × ((u : ℕ) → u < rank → getD out u 0 ≡ byTier amounts (getD ranking u 0))
 
 abbrev μ-loop : tie.MeasureT-loop
-μ-loop amounts ranking out₀ i₀ out i = tiers - i
+μ-loop amounts ranking out₀ rank₀ out rank = tiers - rank
 
 long : (c : tie.At-loop Inv-loop μ-loop) → length (c .before .args .t2) ≡ tiers
 long c = search needs
 
-few : (c : tie.In-loop Inv-loop μ-loop) → getD (c .before .before .args .t2) (c .before .loop .i) 0 < tiers
-few c = rank-few (c .before .before .args .t2) (c .before .before .pre) (long (c .before)) (c .before .loop .i) (omega arith)
+few : (c : tie.In-loop Inv-loop μ-loop) → getD (c .before .before .args .t2) (c .before .loop .rank) 0 < tiers
+few c = rank-few (c .before .before .args .t2) (c .before .before .pre) (long (c .before)) (c .before .loop .rank) (omega arith)
 
 loop-again : tie.Need-loop-again Inv-loop μ-loop
 loop-again c =
     let l = c .before .loop in
     let a = c .before .before .args in (
       omega arith,
-      length-set (l .out) (l .i) _ ∙ l .inv .1,
-      fill-more (λ u. byTier (a .t1) (getD (a .t2) u 0)) (l .out) (l .i) _ (omega (arith, l .inv .1)) (l .inv .2) refl,
+      length-set (l .out) (l .rank) _ ∙ l .inv .1,
+      fill-more (λ u. byTier (a .t1) (getD (a .t2) u 0)) (l .out) (l .rank) _ (omega (arith, l .inv .1)) (l .inv .2) refl,
     )
 
 returns : tie.Need-returns Inv-loop μ-loop
