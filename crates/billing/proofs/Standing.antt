@@ -15,7 +15,7 @@ use Rattle.cascade.specs.Cascade.{tiers, byTier, ranked, excess}
 use Rattle.cascade.proofs.Ranking.{ranked-only, ranked-once}
 use Rattle.rows.specs.Rows.{columns, row, row-at}
 use Rattle.figures.specs.Fund.{Fund}
-use Rattle.figures.specs.AgreeLaws.{excess-same}
+use Rattle.figures.proofs.AgreeLaws.{excess-same}
 use Rattle.bills.specs.Lines.{ExposureLine, tierExcess, standsIn}
 use Rattle.standing.specs.Standing.{Groups, Stood}
 use Rattle.schedule.specs.Schedule.{scheduleOf}

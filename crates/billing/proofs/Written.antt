@@ -45,7 +45,7 @@ use Rattle.desks.specs.BookLines.{lineOf}
 use Rattle.standing.specs.Standing.{Stood}
 use Rattle.desks.specs.Pass.{lineCell, linesAt, Lined, Served}
 use Rattle.desks.specs.LineLaws.{InBook, line-in, line-small, cells-apart, all-lines}
-use Rattle.desks.specs.BookLaws.{lines-excess, desk-few, book-lines}
+use Rattle.desks.proofs.BookLaws.{lines-excess, desk-few, book-lines}
 use Rattle.billing.specs.Billed.{linesOf, excessIn, billsOf, AddUp, Billed}
 use Rattle.billing.specs.Tables.{Excesses}
 use Rattle.billing.proofs.Bounds.{charge-few}

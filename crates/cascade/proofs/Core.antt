@@ -1,6 +1,6 @@
 -- The cascade along a list of tiers is the best cut (optimal), and the only one (optimal-only); what its excesses leave standing at a tier is what
 -- the walk has after it (stands-after), and no more than the limit (standing-within). Of the list, the proof knows this alone:
---   Ordered   the test `le` orders the tiers, and limits do not fall along it
+--   Ordered   the test `le` orders the tiers, and limits do not fall along it (specs/Cut)
 --   Sorted    each tier of the list ranks above all before it
 --   Lists     the list has every tier once
 -- Each lemma is one induction along the list, with Rising, Prefix and Walk for what is known of the tiers that are still to come.
@@ -13,7 +13,7 @@ use native.Mathlib.Decide.{decLt}
 use lib.Dec.{eqb, ltb}
 use borrow.Author.Tests.{eq-eqb, ne-eqb, lt-ltb, le-ltb}
 use Rattle.cascade.specs.Cascade.{next, standing, left, excess, standingAfter}
-use Rattle.cascade.specs.Cut.{stands, taken, Feasible, Optimal}
+use Rattle.cascade.specs.Cut.{Ordered, stands, taken, Feasible, Optimal}
 use Rattle.words.specs.Words.{if_then_else_, sumOf, sum, All}
 use Rattle.words.specs.Sums.{all-map, all-both, sum-add}
 use Rattle.cascade.proofs.Lists.{sumOf-zero}
@@ -71,14 +71,6 @@ module _ (e x y P Q : ℕ → ℕ) where
   same-cuts (k ∷ ks) s p q h =
       let kept = one-kept k s (p .0) (q .0) (h .0) in
       (λ l. omega (arith, h .0 l .1, h .0 l .2), same-cuts ks (s + (e k - x k)) (p .1) (rw kept at (q .1)) (h .1))
-
--- le orders the tiers, and no limit falls along it
-pub record Ordered (le : ℕ → ℕ → Bool) (L : ℕ → ℕ) : Type 0 where
-  pub self : (a : ℕ) → le a a ≡ true
-  pub total : (a b : ℕ) → le b a ≡ false → le a b ≡ true
-  pub strict : (a b : ℕ) → (a ≡ b → ⊥) → le a b ≡ true → le b a ≡ false
-  pub trans : (a b c : ℕ) → le b a ≡ false → le c b ≡ false → le c a ≡ false
-  pub rises : (a b : ℕ) → le b a ≡ false → L a ≤ L b
 
 -- each tier of the list ranks above all before it
 abbrev pub Sorted : (ℕ → ℕ → Bool) → List ℕ → Type 0

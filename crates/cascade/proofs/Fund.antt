@@ -9,10 +9,10 @@ use native.Mathlib.Decide.{decLt}
 use borrow.Author.Tests.{lt-ltb, le-ltb}
 use lib.Dec.{ltb}
 use Rattle.cascade.specs.Cascade.{ranked, standing, left, excess, standingAfter, excessSum}
-use Rattle.cascade.specs.Cut.{stands, taken, Optimal, FundOptimal}
+use Rattle.cascade.specs.Cut.{stands, taken, Optimal, FundOptimal, Ordered}
 use Rattle.words.specs.Words.{if_then_else_, sum}
 use Rattle.words.specs.Sums.{sum-le, sum-same}
-use Rattle.cascade.proofs.Core.{Ordered, optimal, optimal-only, stands-after, standing-within}
+use Rattle.cascade.proofs.Core.{optimal, optimal-only, stands-after, standing-within}
 use Rattle.cascade.proofs.Ranking.{ranked-sorted, ranked-lists}
 
 pub ranked-optimal : (n : ℕ) (le : ℕ → ℕ → Bool) (L e : ℕ → ℕ) → Ordered le L → Optimal n le L e (excess L e (ranked le n))

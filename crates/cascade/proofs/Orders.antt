@@ -12,8 +12,7 @@ use Rattle.words.specs.Words.{if_then_else_}
 use Rattle.words.specs.Choice.{never, both}
 use Rattle.words.specs.Sums.{sum-le}
 use Rattle.cascade.specs.Cascade.{ranked, excess, excessSum}
-use Rattle.cascade.specs.Cut.{stands, Feasible}
-use Rattle.cascade.proofs.Core.{Ordered}
+use Rattle.cascade.specs.Cut.{stands, Feasible, Ordered}
 use Rattle.cascade.proofs.Fund.{ranked-optimal, excess-sum-taken}
 
 module _ (le : ℕ → ℕ → Bool) (L : ℕ → ℕ) (o : Ordered le L) where

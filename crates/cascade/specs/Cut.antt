@@ -1,9 +1,24 @@
--- Demand 3's words on cuts, with no list and no sorting in them: what a cut leaves standing, which cuts are feasible, which is the best.
+-- Demand 3's words on cuts, with no list and no sorting in them: what a cut leaves standing, which cuts are feasible, which is the best; and all that is
+-- asked of a ranking (Ordered).
 -- There are n tiers. le says whether a tier ranks at or below another, L is a tier's limit, e the group's exposure in it, cut what is cut of it.
 -- The tiers of a group are those where e is above 0; what a cut says of any other tier counts nowhere.
-use mathlib.Core.Bool.{Bool}
+use mathlib.Core.Bool.{Bool, true, false}
+use mathlib.Core.Path.{_≡_}
 use Prim.Native.Nat.{ℕ, _-_, _≤_, _<_}
 use Rattle.words.specs.Words.{_<?_, if_then_else_, sum}
+
+-- le ranks the tiers one above the other, and limits do not fall along it:
+-- self     a tier ranks at or below itself
+-- total    of two tiers, one ranks at or below the other
+-- strict   two tiers that are not the same rank at or below each other one way only
+-- trans    what ranks above a tier ranks above all below that tier
+-- rises    a tier that ranks above another has at least its limit
+pub record Ordered (le : ℕ → ℕ → Bool) (L : ℕ → ℕ) : Type 0 where
+  pub self : (a : ℕ) → le a a ≡ true
+  pub total : (a b : ℕ) → le b a ≡ false → le a b ≡ true
+  pub strict : (a b : ℕ) → (a ≡ b → ⊥) → le a b ≡ true → le b a ≡ false
+  pub trans : (a b c : ℕ) → le b a ≡ false → le c b ≡ false → le c a ≡ false
+  pub rises : (a b : ℕ) → le b a ≡ false → L a ≤ L b
 
 -- "what a cut leaves standing is exposure less cut": at tier t, summed over the tiers that rank at or below t ("an equal limit counts as lower")
 unfoldable pub stands : (n : ℕ) → (ℕ → ℕ → Bool) → (ℕ → ℕ) → (ℕ → ℕ) → ℕ → ℕ

@@ -17,9 +17,8 @@ use Rattle.exposure.specs.Sums.{W}
 use Rattle.cascade.specs.Cascade.{byTier, byLimit}
 use Rattle.figures.specs.Report.{report}
 use Rattle.figures.specs.Read.{chargeIn}
-use Rattle.figures.proofs.Orders.{inOrder}
-use Rattle.fund.specs.Figures.{unroundedOf, fundOf}
-use Rattle.fund.proofs.Cents.{centsOrder}
+use Rattle.figures.specs.Fund.{inOrder}
+use Rattle.fund.specs.Figures.{unroundedOf, centsOrder, fundOf}
 use Rattle.report.specs.Answer.{reportOf, answerOf}
 use Rattle.examples.specs.Build.{plain, reinsured, entered, usual, name, bank}
 use Rattle.examples.specs.Reading.{printed, line}

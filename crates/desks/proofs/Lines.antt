@@ -29,7 +29,7 @@ use Rattle.cells.specs.CellLaws.{Inside, rest-cell}
 use Rattle.desks.specs.BookLines.{lineOf}
 use Rattle.desks.specs.Pass.{lineCell, partLines, restLine, assetLines, linesAt, Lined, PartsServed, Served}
 use Rattle.desks.specs.LineLaws.{line-in, line-cell, line-small, rest-in, all-from}
-use Rattle.desks.specs.BookLaws.{desk-few}
+use Rattle.desks.proofs.BookLaws.{desk-few}
 
 module _ {b : List ℕ} (acc : Accepted b) where
   part-in : (place amount : ℕ) → 0 < place → place ≤ K b → Inside b (partAt b place amount)

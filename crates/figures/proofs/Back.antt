@@ -12,7 +12,7 @@ use Rattle.wire.proofs.Laws.{read-in, number}
 use Rattle.figures.specs.declared.Line.{Line}
 use Rattle.figures.specs.Report.{lineSize, lineBytes, joined}
 use Rattle.figures.specs.Read.{lineFrom}
-use Rattle.figures.specs.AgreeLaws.{same-line}
+use Rattle.figures.proofs.AgreeLaws.{same-line}
 
 -- a number that stands in a part of a list, read in the whole
 module _ (a vs b : List ℕ) (at k : ℕ) (e : length a ≡ at) where

@@ -10,8 +10,7 @@ use lib.ListN.{length, length-append}
 use Rattle.words.specs.Words.{_≤?_, _<?_, _=?_, if_then_else_, sum, sumOf}
 use Rattle.words.specs.Choice.{both}
 use Rattle.words.specs.Sums.{sum-le, sum-same}
-use Rattle.cascade.specs.Cut.{taken, Optimal}
-use Rattle.cascade.proofs.Core.{Ordered}
+use Rattle.cascade.specs.Cut.{taken, Optimal, Ordered}
 use Rattle.cascade.proofs.Fund.{ranked-optimal, optimal-same, excess-sum-taken}
 use Rattle.figures.specs.declared.Line.{Line}
 use Rattle.figures.specs.Fund.{Fund, overGroups}

@@ -1,3 +1,4 @@
+pub mod AgreeLaws
 pub mod Sums
 pub mod Back
 pub mod Written

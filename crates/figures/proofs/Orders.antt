@@ -1,5 +1,4 @@
--- A fund with its tiers in another order, along which the limits do not fall either.
---   inOrder                               such a fund
+-- A fund with its tiers in another order (`inOrder`), along which the limits do not fall either.
 --   group-excess-either charge-either     its group excess and its charge are the same
 --   head-either                           and so is the whole header: the two reports differ in their lines at most
 --   report-either                         where the orders agree on the tiers that each group has, the two reports are the same
@@ -14,30 +13,14 @@ use borrow.Author.Tests.{ltb-true}
 use Rattle.words.specs.Words.{_<?_, if_then_else_, eachOf, those, countFrom}
 use Rattle.words.specs.Sums.{sum-same, sum-length, each-same, all-map, all-count}
 use Rattle.cascade.specs.Cascade.{ranked, standing, left, excess}
-use Rattle.cascade.proofs.Core.{Ordered}
+use Rattle.cascade.specs.Cut.{Ordered}
 use Rattle.cascade.proofs.Ranking.{ranked-only}
 use Rattle.cascade.proofs.Orders.{excess-sum-either}
 use Rattle.figures.specs.declared.Line.{Line}
-use Rattle.figures.specs.Fund.{Fund}
+use Rattle.figures.specs.Fund.{Fund, inOrder}
 use Rattle.figures.specs.Report.{ranking, tierSet, lineOf, cellLines, groupLines, excessSumOf, linesOf, groupExcess, charge, headOf, report}
 use Rattle.figures.proofs.Written.{lines-sum}
 use Rattle.figures.proofs.Shown.{those-agree, standing-those}
-
-abbrev pub inOrder : (ℕ → ℕ → Bool) → Fund → Fund
-inOrder le F =
-    record {
-      groups = F .groups;
-      tiers = F .tiers;
-      order = le;
-      limit = F .limit;
-      exposure = F .exposure;
-      vaf = F .vaf;
-      stressedVaf = F .stressedVaf;
-      allNet = F .allNet;
-      unlimited = F .unlimited;
-      a3Sum = F .a3Sum;
-      a3Limit = F .a3Limit;
-    }
 
 module _ (F : Fund) (le : ℕ → ℕ → Bool) (o : Ordered (F .order) (F .limit)) (o′ : Ordered le (F .limit)) where
   pub group-excess-either : groupExcess (inOrder le F) ≡ groupExcess F

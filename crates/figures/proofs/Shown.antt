@@ -11,7 +11,8 @@ use Rattle.words.specs.Words.{_<?_, if_then_else_, those, All}
 use Rattle.words.specs.Choice.{by-test}
 use Rattle.words.specs.Sums.{all-map}
 use Rattle.cascade.specs.Cascade.{insert, ranked, next, standing}
-use Rattle.cascade.proofs.Core.{Ordered, Sorted}
+use Rattle.cascade.specs.Cut.{Ordered}
+use Rattle.cascade.proofs.Core.{Sorted}
 use Rattle.cascade.proofs.Ranking.{ranked-only, ranked-sorted}
 
 module _ (test : ℕ → Bool) where

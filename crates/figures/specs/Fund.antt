@@ -24,3 +24,20 @@ pub record Fund : Type 0 where
 -- "all groups' (..) summed": the sum of f over the groups' places
 abbrev pub overGroups : Fund → (ℕ → ℕ) → ℕ
 overGroups F f = sum (λ k. f (k + 1)) (F .groups)
+
+-- the fund with its tiers in another order
+abbrev pub inOrder : (ℕ → ℕ → Bool) → Fund → Fund
+inOrder le F =
+    record {
+      groups = F .groups;
+      tiers = F .tiers;
+      order = le;
+      limit = F .limit;
+      exposure = F .exposure;
+      vaf = F .vaf;
+      stressedVaf = F .stressedVaf;
+      allNet = F .allNet;
+      unlimited = F .unlimited;
+      a3Sum = F .a3Sum;
+      a3Limit = F .a3Limit;
+    }

@@ -2,4 +2,3 @@ pub mod Fund
 pub mod Report
 pub mod Read
 pub mod LeastCuts
-pub mod AgreeLaws

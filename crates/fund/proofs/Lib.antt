@@ -1,3 +1,5 @@
+pub mod MostLines
+pub mod OrderLaws
 pub mod Limits
 pub mod Cents
 pub mod OneTreaty

@@ -2,6 +2,7 @@
 --   unroundedOf       the fund's limits before they are rounded, by tier
 --   limitsOf, limit   those in cents
 --   order             how its tiers rank
+--   centsOrder        how they ranked before C-17
 --   a3Sum, a3Limit    what counts for A3, and its limit
 --   fundOf            all of it, as the fund that the report's definitions speak of
 use mathlib.Core.Bool.{Bool}
@@ -31,6 +32,10 @@ limit S B = byTier (limitsOf S B)
 -- C-17: "Tiers shall rank by the unrounded limit, and only truly equal ones by number": whether a tier ranks at or below another
 abbrev pub order : Schedule → Book → ℕ → ℕ → Bool
 order S B = byLimit (byTier (unroundedOf S B))
+
+-- "tiers rank by limit in cents, then number", which C-17 replaced: no fund has it, and the laws and cases of C-17 hold `order` against it
+abbrev pub centsOrder : Schedule → Book → ℕ → ℕ → Bool
+centsOrder S B = byLimit (limit S B)
 
 -- "per group, in tiers 1 and 3 to 6, exposures to counterparties not of kind 4 count together, tier by tier, up to the tier's unreduced limit.
 -- Their sum over the fund is the A3 sum"

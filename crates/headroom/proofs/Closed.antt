@@ -17,11 +17,11 @@ use Rattle.words.specs.Choice.{by-test, never}
 use Rattle.words.specs.Sums.{sum-add, sum-same, all-map}
 use Rattle.words.specs.Ranges.{sum-here}
 use Rattle.cascade.specs.Cascade.{insert, ranked, next, excess, excessSum}
-use Rattle.cascade.specs.Cut.{stands}
-use Rattle.cascade.proofs.Core.{Ordered, Sorted, Rising, Prefix, Walk, rising-less, stands-prefix, excess-walk, all-rising}
+use Rattle.cascade.specs.Cut.{stands, Ordered}
+use Rattle.cascade.proofs.Core.{Sorted, Rising, Prefix, Walk, rising-less, stands-prefix, excess-walk, all-rising}
 use Rattle.cascade.proofs.Ranking.{ranked-only, ranked-sorted, ranked-lists, ranking}
 use Rattle.cascade.proofs.Fund.{excess-within}
-use Rattle.figures.specs.AgreeLaws.{excess-same}
+use Rattle.figures.proofs.AgreeLaws.{excess-same}
 use Rattle.headroom.specs.Headroom.{plus, leastOf, overAt, roomIn}
 use Rattle.headroom.proofs.Along.{end, rest, counted, rest-cap, grown, left-over}
 

@@ -11,7 +11,7 @@ use Rattle.words.specs.Words.{_=?_, if_then_else_, sum}
 use Rattle.words.specs.Sums.{sum-add, sum-same}
 use Rattle.words.specs.Ranges.{sum-here}
 use Rattle.cascade.specs.Cascade.{next, excess, standingAfter, excessSum}
-use Rattle.cascade.proofs.Core.{Ordered}
+use Rattle.cascade.specs.Cut.{Ordered}
 use Rattle.cascade.proofs.Fund.{ranked-stands}
 use Rattle.figures.specs.Fund.{Fund}
 use Rattle.figures.specs.Report.{ranking, excessOf, excessSumOf, groupExcess, charge}

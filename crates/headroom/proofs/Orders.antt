@@ -2,10 +2,10 @@
 use mathlib.Core.Bool.{Bool}
 use mathlib.Core.Path.{_≡_, sym, _∙_}
 use Prim.Native.Nat.{ℕ, _+_, _≤_}
-use Rattle.cascade.proofs.Core.{Ordered}
-use Rattle.figures.specs.Fund.{Fund}
+use Rattle.cascade.specs.Cut.{Ordered}
+use Rattle.figures.specs.Fund.{Fund, inOrder}
 use Rattle.figures.specs.Report.{charge}
-use Rattle.figures.proofs.Orders.{inOrder, charge-either}
+use Rattle.figures.proofs.Orders.{charge-either}
 use Rattle.headroom.specs.Headroom.{withMore, Greatest, headroomOf}
 use Rattle.headroom.proofs.Greatest.{greatest, greatest-only}
 

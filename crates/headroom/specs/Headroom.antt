@@ -12,8 +12,7 @@ use Prim.Native.Nat.{ℕ, zero, suc, _+_, _-_, _≤_, _<_, min}
 use lib.ListN.{getD}
 use Rattle.words.specs.Words.{_<?_, _=?_, if_then_else_}
 use Rattle.cascade.specs.Cascade.{tiers, byTier, ranked, excess}
-use Rattle.cascade.specs.Cut.{stands}
-use Rattle.cascade.proofs.Core.{Ordered}
+use Rattle.cascade.specs.Cut.{stands, Ordered}
 use Rattle.figures.specs.Fund.{Fund}
 use Rattle.figures.specs.Report.{charge}
 

@@ -9,7 +9,8 @@ use lib.ListN.{length, getD}
 use Rattle.words.specs.Words.{_<?_, _=?_, if_then_else_, sumOf, eachOf, those, countFrom, All}
 use Rattle.words.specs.Sums.{each-same, all-map}
 use Rattle.cascade.specs.Cascade.{tiers, byTier, leftAt, excessAt, next, standing}
-use Rattle.cascade.proofs.Core.{Ordered, Sorted, apart}
+use Rattle.cascade.specs.Cut.{Ordered}
+use Rattle.cascade.proofs.Core.{Sorted, apart}
 use Rattle.figures.specs.declared.Line.{Line}
 use Rattle.figures.proofs.Sums.{if-zero}
 use Rattle.rows.specs.Rows.{row}

@@ -11,12 +11,12 @@ use lib.ListN.{length, getD}
 use Rattle.words.specs.Words.{_<?_, _=?_, if_then_else_, sum, sumOf, eachOf, countFrom}
 use Rattle.words.specs.Sums.{sum-each, sum-same, sum-count, sum-length, each-same, all-map, all-count}
 use Rattle.cascade.specs.Cascade.{tiers, byTier, ranked, left, excess, standing}
-use Rattle.cascade.proofs.Core.{Ordered}
+use Rattle.cascade.specs.Cut.{Ordered}
 use Rattle.cascade.proofs.Ranking.{ranked-only, ranked-sorted}
 use Rattle.figures.specs.declared.Figures.{Figures}
 use Rattle.figures.specs.Fund.{Fund}
 use Rattle.figures.specs.Report.{ranking, tierSet, lineOf, cellLines, groupLines, linesOf}
-use Rattle.figures.specs.AgreeLaws.{same-line, left-same, excess-same}
+use Rattle.figures.proofs.AgreeLaws.{same-line, left-same, excess-same}
 use Rattle.figures.proofs.Sums.{sum-none, sum-one}
 use Rattle.figures.proofs.Size.{group-count}
 use Rattle.rows.specs.Rows.{row}

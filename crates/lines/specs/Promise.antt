@@ -18,7 +18,7 @@ use Rattle.words.specs.Words.{sum, sumOf, countFrom, All}
 use Rattle.wire.specs.Bytes.{M, placed}
 use Rattle.cascade.specs.Cascade.{tiers, byTier, ranked}
 use Rattle.cascade.specs.Promise.{Once}
-use Rattle.cascade.proofs.Core.{Ordered}
+use Rattle.cascade.specs.Cut.{Ordered}
 use Rattle.figures.specs.declared.Figures.{Figures}
 use Rattle.figures.specs.Report.{headSize, lineSize, linesOf, report}
 use Rattle.rows.specs.Rows.{mostGroups, columns, row}

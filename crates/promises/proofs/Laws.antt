@@ -33,7 +33,7 @@ use Rattle.questions.specs.Headroom.{answersOf, headroomCheck, headroomAnswer, 
 use Rattle.asking.proofs.Listed.{listed}
 use Rattle.packing.specs.Packed.{packed}
 use Rattle.packing.specs.Version.{libraryVersion, number-read, schedule-read, book-read}
-use Rattle.report.specs.Most.{report-most}
+use Rattle.report.proofs.Most.{report-most}
 use Rattle.promises.specs.Exported.{Apart, Reported, Converted, BillsWritten, Answers, Published, Versioned}
 
 -- no refusal has the number 0

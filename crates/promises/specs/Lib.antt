@@ -1,3 +1,2 @@
 pub mod Exported
 pub mod Tenfold
-pub mod Converted

@@ -24,7 +24,7 @@ use Rattle.cells.specs.Cells.{Rowed}
 use Rattle.cells.specs.GroupSums.{group-le}
 use Rattle.fund.specs.declared.Fund as made
 use Rattle.fund.specs.Figures.{limit, order, fundOf}
-use Rattle.fund.specs.OrderLaws.{ordered}
+use Rattle.fund.proofs.OrderLaws.{ordered}
 use Rattle.fund.specs.Fund.{Exposed, RatedAs}
 use Rattle.report.specs.Answer.{fundIn}
 use Rattle.questions.specs.Tables.{startAt, exposuresAt, columnAt, answerAt, Answerable}

@@ -1,2 +1,3 @@
+pub mod Most
 pub mod Chain
 pub mod Written

@@ -20,14 +20,14 @@ use Rattle.book.specs.Accepted.{Accepted}
 use Rattle.exposure.specs.Values.{fundCheck}
 use Rattle.exposure.specs.Sums.{exposureOf}
 use Rattle.cascade.specs.Cascade.{tiers, byTier}
-use Rattle.cascade.proofs.Core.{Ordered}
+use Rattle.cascade.specs.Cut.{Ordered}
 use Rattle.cascade.proofs.Ranking.{ranked-once}
 use Rattle.rows.specs.Rows.{mostGroups, columns, row, row-at}
 use Rattle.figures.specs.Fund.{Fund}
 use Rattle.figures.specs.Report.{headSize, lineSize, charge, report}
 use Rattle.figures.specs.Read.{chargeIn}
 use Rattle.figures.specs.LeastCuts.{LeastCuts}
-use Rattle.figures.specs.AgreeLaws.{Same, report-same}
+use Rattle.figures.proofs.AgreeLaws.{Same, report-same}
 use Rattle.figures.proofs.Size.{report-long}
 use Rattle.figures.proofs.Written.{charge-in}
 use Rattle.figures.proofs.Least.{least-cuts}
@@ -42,7 +42,7 @@ use Rattle.cells.specs.Cells.{rowAt}
 use Rattle.cells.specs.GroupSums.{exposure-none, row-tier, rows-le}
 use Rattle.fund.specs.declared.Fund as made
 use Rattle.fund.specs.Figures.{order, fundOf}
-use Rattle.fund.specs.OrderLaws as order-laws
+use Rattle.fund.proofs.OrderLaws as order-laws
 use Rattle.fund.specs.Fund.{Passed, Exposed, RatedAs}
 use Rattle.report.specs.Answer.{fundIn, reportOf, Answered}
 use Rattle.report.specs.Tables.{Headed, Room}

@@ -1,7 +1,8 @@
 -- What C-15 keeps.
 --   counted-fits         refusal 4 reads rates as they are written, and so as they count
---   stays stays-a3       the limits of a version 1 schedule are those that its rates give in per mille
---   stays-ranked         and its tiers rank as these do unrounded
+--   tenfold-limits       unrounded limits of ten times the rates are ten times as many parts
+--   by-version           the rates that count, by the version
+--   stays stays-a3       the limits of a version 1 schedule are those that its rates give in per mille; its tiers rank alike too (proofs/RankLaws)
 --   Tenfold              a version 1 schedule, and a version 2 schedule with ten times its rates
 --   tenfold-counts tenfold-check   they count alike, and refusals 1 to 4 find the same of both
 use mathlib.Core.Bool.{Bool, true, false}
@@ -11,19 +12,16 @@ use Prim.Native.Nat.{ℕ, _*_}
 use native.Mathlib.Nat.{one-mul}
 use native.Mathlib.Omega.{arith}
 use lib.IntN.{ℤ}
-use lib.ListN.{length, getD}
+use lib.ListN.{length}
 use borrow.Author.Tests.{leb-true, leb-false, le-leb, lt-leb}
 use Rattle.words.specs.Words.{_≤?_, _=?_, if_then_else_}
 use Rattle.limit.specs.declared.Row.{Row}
 use Rattle.limit.specs.Limit.{perMille, tenThousandths, timesRow, centsOf}
 use Rattle.limit.specs.Bounds.{mostRate}
 use Rattle.limit.specs.ScaleLaws.{tenfold-unrounded, per-mille}
-use Rattle.cascade.specs.Cascade.{byTier, byLimit}
-use Rattle.cascade.proofs.Ranking.{byLimit-same}
 use Rattle.schedule.specs.declared.Schedule.{Schedule}
 use Rattle.schedule.specs.Schedule.{version, counts, timesAll, writtenOf, scheduleOf}
 use Rattle.schedule.specs.Check.{scheduleMarked, mostWritten, rowFits, ratesFit, fieldsCheck, scheduleCheck}
-use Rattle.schedule.specs.TierLaws.{map-at}
 use Rattle.schedule.specs.Tiers.{rateAlone, unroundedIn, unroundedLimits, limits, limitsIn, a3LimitOf, a3LimitIn}
 
 -- ten times a rate is at most 15,000 where the rate is at most 1,500
@@ -52,7 +50,7 @@ module _ (S : Schedule) (vaf vaf′ : ℕ) (base : ℤ) (w : ℕ) where
   abbrev mille : List ℕ
   mille = unroundedIn perMille S vaf vaf′ base w
 
-  tenfold-limits : unroundedLimits (timesAll 10 S) vaf vaf′ base w ≡ map (λ n. 10 * n) mille
+  pub tenfold-limits : unroundedLimits (timesAll 10 S) vaf vaf′ base w ≡ map (λ n. 10 * n) mille
   unfolding unroundedIn
   tenfold-limits =
       rw (
@@ -82,27 +80,14 @@ module _ (S : Schedule) (vaf vaf′ : ℕ) (base : ℤ) (w : ℕ) where
       cents [] = refl
       cents (x ∷ xs) = ap₂ _∷_ (omega arith) (cents xs)
 
-  -- ten times as many parts rank alike
-  per-mille-ranked : (a b : ℕ) → byLimit (byTier (unroundedLimits (timesAll 10 S) vaf vaf′ base w)) a b ≡ byLimit (byTier mille) a b
-  per-mille-ranked a b =
-      let ten : (t : ℕ) → byTier (unroundedLimits (timesAll 10 S) vaf vaf′ base w) t ≡ 10 * byTier mille t =
-      λ t. ap (λ (xs : List ℕ). getD xs t 0) tenfold-limits ∙ map-at (λ n. 10 * n) refl mille t in
-      byLimit-same (byTier (unroundedLimits (timesAll 10 S) vaf vaf′ base w)) (byTier mille) (λ c d h. omega (arith, ten c, ten d)) a b
-      (λ _ q. omega (arith, ten a, ten b)) (λ _ q. omega (arith, ten a, ten b))
-
 -- a schedule's rates, by its version
-by-version : (s : List ℕ) {v : ℕ} → version s ≡ v → scheduleOf s ≡ timesAll (counts v) (writtenOf s)
+pub by-version : (s : List ℕ) {v : ℕ} → version s ≡ v → scheduleOf s ≡ timesAll (counts v) (writtenOf s)
 unfolding scheduleOf
 by-version s e = ap (λ (v : ℕ). timesAll (counts v) (writtenOf s)) e
 
 module _ (s : List ℕ) (e : version s ≡ 1) where
   pub stays : (vaf vaf′ : ℕ) (base : ℤ) (w : ℕ) → limits (scheduleOf s) vaf vaf′ base w ≡ limitsIn perMille (writtenOf s) vaf vaf′ base w
   stays vaf vaf′ base w = rw (by-version s e) (per-mille-limits (writtenOf s) vaf vaf′ base w)
-
-  pub stays-ranked :
-      (vaf vaf′ : ℕ) (base : ℤ) (w a b : ℕ)
-      → byLimit (byTier (unroundedLimits (scheduleOf s) vaf vaf′ base w)) a b ≡ byLimit (byTier (unroundedIn perMille (writtenOf s) vaf vaf′ base w)) a b
-  stays-ranked vaf vaf′ base w a b = rw (by-version s e) (per-mille-ranked (writtenOf s) vaf vaf′ base w a b)
 
   pub stays-a3 : (vaf′ : ℕ) (base : ℤ) → a3LimitOf (scheduleOf s) vaf′ base ≡ a3LimitIn perMille (writtenOf s) vaf′ base
   unfolding a3LimitIn

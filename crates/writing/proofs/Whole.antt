@@ -9,8 +9,8 @@ use Rattle.words.specs.Words.{sumOf, those}
 use Rattle.wire.specs.Bytes.{M, placed}
 use Rattle.wire.proofs.Laws.{placed-before}
 use Rattle.cascade.specs.Cascade.{tiers, byTier, ranked}
+use Rattle.cascade.specs.Cut.{Ordered}
 use Rattle.rows.specs.Rows.{mostGroups}
-use Rattle.cascade.proofs.Core.{Ordered}
 use Rattle.cascade.proofs.Ranking.{ranked-only, ranked-once, length-ranked}
 use Rattle.figures.specs.declared.Head.{Head}
 use Rattle.figures.specs.declared.Line.{Line}

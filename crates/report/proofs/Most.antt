@@ -22,7 +22,7 @@ use Rattle.book.specs.AcceptedLaws.{accepted}
 use Rattle.exposure.specs.Values.{fundCheck}
 use Rattle.figures.specs.Report.{headSize, lineSize}
 use Rattle.figures.proofs.Size.{report-long}
-use Rattle.fund.specs.MostLines.{lines-most}
+use Rattle.fund.proofs.MostLines.{lines-most}
 use Rattle.report.specs.Answer.{fundIn, reportOf, checkOf}
 
 -- an asset and a mitigant each make one line at most

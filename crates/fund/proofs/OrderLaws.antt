@@ -3,7 +3,7 @@
 --   ordered       so along the ranking limits do not fall: all that demand 3 and the answers to questions ask of it
 use Prim.Native.Nat.{ℕ, _≤_}
 use Rattle.cascade.specs.Cascade.{byTier}
-use Rattle.cascade.proofs.Core.{Ordered}
+use Rattle.cascade.specs.Cut.{Ordered}
 use Rattle.cascade.proofs.Ranking.{byLimit-ordered, ordered-with}
 use Rattle.schedule.specs.declared.Schedule.{Schedule}
 use Rattle.schedule.specs.TierLaws as tier-laws
