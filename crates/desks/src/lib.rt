@@ -1,17 +1,14 @@
 // A book's exposure lines in book order: the cell of each, and the lines of what an asset's mitigants cover, to which what stands is given; what a line is not
 // given is its desk's.
 ghost use mathlib.Core.Path.{_≡_};
-ghost use Prim.Native.Nat.{ℕ, _+_, _-_, _≤_, _<_, _^_};
-ghost use lib.ListN.{length};
+ghost use Prim.Native.Nat.{ℕ, _+_, _-_, _≤_, _<_};
 ghost use Rattle.rows.specs.Rows.{columns};
-ghost use Rattle.bills.specs.Bills.{deskCount};
-ghost use Rattle.bills.specs.Tables.{byDesk, desksAfter};
 ghost use Rattle.book.specs.Records.{K, mitigantsStart, counterpartyAt};
 ghost use Rattle.book.specs.Accepted.{Accepted};
 ghost use Rattle.columns.specs.Column.{tierIn, Tiered};
 ghost use Rattle.cells.specs.Cells.{partAt, Rowed};
 ghost use Rattle.desks.specs.BookLines.{lineOf};
-ghost use Rattle.desks.specs.Pass.{lineCell, partLines, Lined, PartsServed};
+ghost use Rattle.desks.specs.Pass.{lineCell, PartsServable, PartsServed};
 
 fn wide(x: u16) -> usize
     ensures { λ r. ⌜ r ≡ x ⌝ }
@@ -61,7 +58,7 @@ pub fn serve_parts(
     still: &mut [u64],
     desks: &mut [u64],
 )
-    requires { ⌜ (Accepted (now b)) × (start ≡ mitigantsStart (now b)) × (0 < first) × (first ≤ end) × (end ≤ K (now b) + 1) × (desk < deskCount) × (Rowed (now b) (now words) (now rows)) × (Tiered (now tiers)) × (K (now b) < length (now covered)) × (Lined (now b) (now still) (now desks)) × ((d : ℕ) → byDesk (desksAfter (lineCell (now b)) (partLines (now b) (now covered) desk first (end - first)) (now still) (now desks)) d < 2 ^ 64) ⌝ }
+    requires { ⌜ PartsServable (now b) start first end desk (now words) (now rows) (now tiers) (now covered) (now still) (now desks) ⌝ }
     ensures { λ _. ⌜ PartsServed (now (b .entry)) (now (covered .entry)) desk first (end - first) (now (still .entry)) (now (desks .entry)) (now (still .exit)) (now (desks .exit)) ⌝ }
 {
     let mut place = first;

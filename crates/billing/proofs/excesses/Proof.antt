@@ -34,18 +34,19 @@ serve-requires c κs =
     let d = c .before .before .before .before in
     let s = d .before .before .before .before .before .before .before .before .before .before .before .before .before .before .before .before .before .before .before in
     let t = s .pre .0 in
-    let h = d .before .before .before .before .before .before .header-at .ensures in (
-      taken (t .passed),
-      d .before .before .before .before .assets-of .ensures,
-      mitigants-from (now (s .args .book)) h (d .before .before .before .mitigants-start .ensures),
-      header-counts (now (s .args .book)) h .1,
-      t .rowed,
-      t .placed,
-      t .covered-size,
-      t .rests-size,
-      lined t (byte d) (d .stand .ensures) (s .pre .1) (d .before .before .less .ensures),
-      serve-room t (byte d) (d .stand .ensures) (s .pre .1) (d .before .before .less .ensures),
-    )
+    let h = d .before .before .before .before .before .before .header-at .ensures in
+    record {
+      accepted = taken (t .passed);
+      records = d .before .before .before .before .assets-of .ensures;
+      section = mitigants-from (now (s .args .book)) h (d .before .before .before .mitigants-start .ensures);
+      count = header-counts (now (s .args .book)) h .1;
+      rowed = t .rowed;
+      placed = t .placed;
+      covered-size = t .covered-size;
+      rests-size = t .rests-size;
+      lined = lined t (byte d) (d .stand .ensures) (s .pre .1) (d .before .before .less .ensures);
+      room = serve-room t (byte d) (d .stand .ensures) (s .pre .1) (d .before .before .less .ensures);
+    }
 
 same-length-2 : tie.Need-same-length-2
 same-length-2 c =

@@ -13,13 +13,13 @@ abbrev μ-loop : tie.MeasureT-loop
 μ-loop b start first end desk words rows tiers covered still₀ desks₀ place₀ still desks place = end - place
 
 loop-holds : tie.Need-loop-holds Inv-loop μ-loop
-loop-holds c = let s = c .before .before .before .before .before .before .before in parts-start _ _ _ _ _ _ _ (s .pre .3)
+loop-holds c = let s = c .before .before .before .before .before .before .before in parts-start _ _ _ _ _ _ _ (s .pre .along)
 
 part-cell-requires : tie.Need-part-cell-requires Inv-loop μ-loop
-part-cell-requires c κs = let s = c .before .before .before .before .before .before .before .before .before in (s .pre .0, s .pre .1, omega (arith, c .before .loop .inv .low, s .pre .2), omega (arith, s .pre .4), s .pre .6, s .pre .7)
+part-cell-requires c κs = let s = c .before .before .before .before .before .before .before .before .before in (s .pre .accepted, s .pre .section, omega (arith, c .before .loop .inv .low, s .pre .low), omega (arith, s .pre .high), s .pre .rowed, s .pre .tiered)
 
 shared-slice-read-serve : tie.Need-shared-slice-read-serve Inv-loop μ-loop
-shared-slice-read-serve c = let d = c .before .before .before .before in omega (arith, d .loop-test .taken, d .before .before .before .before .before .before .before .before .before .pre .4, d .before .before .before .before .before .before .before .before .before .pre .8)
+shared-slice-read-serve c = let d = c .before .before .before .before in omega (arith, d .loop-test .taken, d .before .before .before .before .before .before .before .before .before .pre .high, d .before .before .before .before .before .before .before .before .before .pre .covered-size)
 
 serve-requires : tie.Need-serve-requires Inv-loop μ-loop
 serve-requires c κs =
@@ -28,9 +28,9 @@ serve-requires c κs =
     let s = d .before .before .before .before .before .before .before .before .before in
     let o = d .before .loop .inv in
     let l = d .loop-test .taken in (
-      part-at o (s .pre .0) (s .pre .2) (s .pre .4) l (t .part-cell .ensures) (s .pre .9),
-      omega (arith, s .pre .5, o .serving .places, s .pre .9 .places),
-      part-room o (s .pre .0) (s .pre .2) (s .pre .4) l (t .part-cell .ensures) (omega (arith, s .pre .5, s .pre .9 .places)) (s .pre .10),
+      part-at o (s .pre .accepted) (s .pre .low) (s .pre .high) l (t .part-cell .ensures) (s .pre .lined),
+      omega (arith, s .pre .desk-few, o .serving .places, s .pre .lined .places),
+      part-room o (s .pre .accepted) (s .pre .low) (s .pre .high) l (t .part-cell .ensures) (omega (arith, s .pre .desk-few, s .pre .lined .places)) (s .pre .room),
     )
 
 loop-again : tie.Need-loop-again Inv-loop μ-loop
@@ -39,7 +39,7 @@ loop-again c =
     let t = u .before .before .before .before in
     let d = t .before in
     let s = d .before .before .before .before .before .before .before .before .before in
-    part-step (d .before .loop .inv) (s .pre .0) (s .pre .2) (s .pre .4) (d .loop-test .taken) (t .part-cell .ensures) (u .serve .ensures)
+    part-step (d .before .loop .inv) (s .pre .accepted) (s .pre .low) (s .pre .high) (d .loop-test .taken) (t .part-cell .ensures) (u .serve .ensures)
 
 same-length : tie.Need-same-length Inv-loop μ-loop
 same-length c = c .before .loop .inv .serving .cells
