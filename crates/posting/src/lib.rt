@@ -3,16 +3,13 @@
 use cells::Sums;
 ghost use mathlib.Core.List.{[]};
 ghost use mathlib.Core.Path.{_≡_};
-ghost use Prim.Native.Nat.{ℕ, _+_, _*_, _≤_, _<_, _^_};
-ghost use lib.ListN.{length, getD};
-ghost use Rattle.book.specs.Records.{C, N, K, mitigantsStart};
+ghost use Prim.Native.Nat.{ℕ, _≤_, _<_};
+ghost use Rattle.book.specs.Records.{N, K, mitigantsStart};
 ghost use Rattle.book.specs.Accepted.{Accepted};
-ghost use Rattle.exposure.specs.Sums.{amountOf};
-ghost use Rattle.rows.specs.Rows.{columns};
-ghost use Rattle.parties.specs.Rows.{topsTo};
 ghost use Rattle.covering.specs.ByPlace.{partsAt, restsAt};
-ghost use Rattle.cells.specs.Adding.{inCell, Adding};
-ghost use Rattle.cells.specs.Cells.{cellOf, partAt, Rowed, Placed, Tabled, Zeros, Posted};
+ghost use Rattle.cells.specs.Adding.{Adding};
+ghost use Rattle.cells.specs.Cells.{cellOf, partAt, Rowed, Posted};
+ghost use Rattle.posting.specs.Postable.{PartsPostable, RestsPostable, Postable};
 
 fn wide(x: u16) -> usize
     ensures { λ r. ⌜ r ≡ x ⌝ }
@@ -41,7 +38,7 @@ fn post_parts(
     covered: &[u64],
     cells: &mut [u64],
 )
-    requires { ⌜ (Accepted (now b)) × (start ≡ mitigantsStart (now b)) × (k ≡ K (now b)) × (Rowed (now b) (now words) (now rows)) × (k < length (now covered)) × (columns * topsTo (now b) (C (now b)) ≤ length (now cells)) × ((q : ℕ) → getD (now cells) q 0 + amountOf (inCell (cellOf (now b)) q) (partsAt (now b) (now covered) 1 (K (now b))) < 2 ^ 64) ⌝ }
+    requires { ⌜ PartsPostable (now b) start k (now words) (now rows) (now covered) (now cells) ⌝ }
     ensures { λ r. ⌜ Adding (cellOf (now (b .entry))) (now (cells .entry)) (partsAt (now (b .entry)) (now (covered .entry)) 1 (K (now (b .entry)))) (now (cells .exit)) [] ⌝ }
 {
     let mut place = 1;
@@ -54,7 +51,7 @@ fn post_parts(
 
 // What is left of the assets, each added to its cell. The book is named by the contract alone.
 fn post_rests(b: &[u8], n: usize, places: &[u16], rests: &[u64], cells: &mut [u64])
-    requires { ⌜ (Accepted (now b)) × (n ≡ N (now b)) × (Placed (now b) (now places)) × (n < length (now rests)) × (columns * topsTo (now b) (C (now b)) ≤ length (now cells)) × ((q : ℕ) → getD (now cells) q 0 + amountOf (inCell (cellOf (now b)) q) (restsAt (now b) (now rests) 1 (N (now b))) < 2 ^ 64) ⌝ }
+    requires { ⌜ RestsPostable (now b) n (now places) (now rests) (now cells) ⌝ }
     ensures { λ r. ⌜ Adding (cellOf (now (b .entry))) (now (cells .entry)) (restsAt (now (b .entry)) (now (rests .entry)) 1 (N (now (b .entry)))) (now (cells .exit)) [] ⌝ }
 {
     let mut place = 1;
@@ -79,7 +76,7 @@ pub fn post(
     places: &[u16],
     cells: &mut [u64],
 ) -> Sums
-    requires { ⌜ (Accepted (now b)) × (start ≡ mitigantsStart (now b)) × (n ≡ N (now b)) × (k ≡ K (now b)) × (groups ≡ topsTo (now b) (C (now b))) × (Rowed (now b) (now words) (now rows)) × (Tabled (now b) (now covered) (now rests)) × (Placed (now b) (now places)) × (Zeros groups (now cells)) ⌝ }
+    requires { ⌜ Postable (now b) start n k groups (now words) (now rows) (now covered) (now rests) (now places) (now cells) ⌝ }
     ensures { λ r. ⌜ Posted (now (b .entry)) groups (now (cells .entry)) (now (cells .exit)) r ⌝ }
 {
     post_parts(b, start, k, words, rows, covered, cells);

@@ -28,7 +28,17 @@ post-requires c κs =
     let e = c .before .before .before .before .before .before .before .before .before .before .before .before .before .before .before .before .before .before .before .before .before .before .before .before .before .before .before .before .before .before .before .before .before .before .before .before .before .before .before .before .header-at .ensures in
     let B = now (s .args .book) in
     let v = c .before .before .before .before .before .before .before .before .before .before .before .before .before .before .before .before .before .before .before .before .before .before .before .before .before .before .before .before .before .before .fill .ensures in
-    (s .pre .0, mitigants-from B e (c .before .before .before .before .before .before .before .before .before .before .before .before .before .before .before .before .before .before .before .before .before .before .before .before .before .before .before .before .before .before .before .before .before .before .before .before .mitigants-start .ensures), header-counts B e .1, header-counts B e .2, s .pre .1, rowed (s .pre .2), pass-tabled (s .pre .3) (s .pre .0) v (c .before .before .before .before .before .before .before .before .before .before .before .before .before .before .before .before .before .before .halve .ensures) (c .before .before .before .before .before .before .before .before .before .before .cover .ensures), pass-placed (s .pre .3) (s .pre .0) v, s .pre .4)
+    record {
+      accepted = s .pre .0;
+      section = mitigants-from B e (c .before .before .before .before .before .before .before .before .before .before .before .before .before .before .before .before .before .before .before .before .before .before .before .before .before .before .before .before .before .before .before .before .before .before .before .before .mitigants-start .ensures);
+      assets = header-counts B e .1;
+      mitigants = header-counts B e .2;
+      count = s .pre .1;
+      rowed = rowed (s .pre .2);
+      tabled = pass-tabled (s .pre .3) (s .pre .0) v (c .before .before .before .before .before .before .before .before .before .before .before .before .before .before .before .before .before .before .halve .ensures) (c .before .before .before .before .before .before .before .before .before .before .cover .ensures);
+      placed = pass-placed (s .pre .3) (s .pre .0) v;
+      zeros = s .pre .4;
+    }
 
 -- each table as long as it was, behind every pass that it was lent to
 same-length : tie.Need-same-length

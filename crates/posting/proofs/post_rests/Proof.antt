@@ -25,28 +25,28 @@ on : (d : tie.After-wide Inv-loop μ-loop) → d .before .before .before .loop .
 on d = omega arith
 
 is : (d : tie.After-wide Inv-loop μ-loop) → d .wide .result ≡ restCell (now (d .before .before .before .before .before .before .before .before .args .b)) (d .before .before .before .loop .place)
-is d = let s = d .before .before .before .before .before .before .before .before in let o = d .before .before .before .loop .inv in d .wide .ensures ∙ s .pre .2 .each _ (o .low) (on d)
+is d = let s = d .before .before .before .before .before .before .before .before in let o = d .before .before .before .loop .inv in d .wide .ensures ∙ s .pre .placed .each _ (o .low) (on d)
 
 few : (d : tie.After-wide Inv-loop μ-loop) → d .wide .result < columns * mostGroups
-few d = let s = d .before .before .before .before .before .before .before .before in left-few (d .before .before .before .loop .inv) (s .pre .0) (on d) (s .pre .4) (is d)
+few d = let s = d .before .before .before .before .before .before .before .before in left-few (d .before .before .before .loop .inv) (s .pre .accepted) (on d) (s .pre .cells-size) (is d)
 
 fit : (d : tie.After-wide Inv-loop μ-loop) → getD (d .before .before .before .loop .cells) (d .wide .result) 0 + getD (now (d .before .before .before .before .before .before .before .before .args .rests)) (d .before .before .before .loop .place) 0 < 2 ^ 64
-fit d = let s = d .before .before .before .before .before .before .before .before in left-room (d .before .before .before .loop .inv) (s .pre .0) (on d) (s .pre .4) (is d) (s .pre .5)
+fit d = let s = d .before .before .before .before .before .before .before .before in left-room (d .before .before .before .loop .inv) (s .pre .accepted) (on d) (s .pre .cells-size) (is d) (s .pre .room)
 
 mul-cells-2 : tie.Need-mul-cells-2 Inv-loop μ-loop
 mul-cells-2 c = omega (arith, few (c .before))
 
 slice-read-cells : tie.Need-slice-read-cells Inv-loop μ-loop
-slice-read-cells c = let d = c .before .before in let s = d .before .before .before .before .before .before .before .before in left-small (d .before .before .before .loop .inv) (s .pre .0) (on d) (s .pre .4) (is d)
+slice-read-cells c = let d = c .before .before in let s = d .before .before .before .before .before .before .before .before in left-small (d .before .before .before .loop .inv) (s .pre .accepted) (on d) (s .pre .cells-size) (is d)
 
 add-cells : tie.Need-add-cells Inv-loop μ-loop
 add-cells c = omega (arith, fit (c .before .before))
 
 slice-write-cells : tie.Need-slice-write-cells Inv-loop μ-loop
-slice-write-cells c = let d = c .before .before in let s = d .before .before .before .before .before .before .before .before in left-small (d .before .before .before .loop .inv) (s .pre .0) (on d) (s .pre .4) (is d)
+slice-write-cells c = let d = c .before .before in let s = d .before .before .before .before .before .before .before .before in left-small (d .before .before .before .loop .inv) (s .pre .accepted) (on d) (s .pre .cells-size) (is d)
 
 loop-again : tie.Need-loop-again Inv-loop μ-loop
-loop-again c = let d = c .before .before in let s = d .before .before .before .before .before .before .before .before in left-step (d .before .before .before .loop .inv) (s .pre .0) (on d) (s .pre .4) (is d)
+loop-again c = let d = c .before .before in let s = d .before .before .before .before .before .before .before .before in left-step (d .before .before .before .loop .inv) (s .pre .accepted) (on d) (s .pre .cells-size) (is d)
 
 same-length : tie.Need-same-length Inv-loop μ-loop
 same-length c = c .before .loop .inv .adding .size
