@@ -158,7 +158,7 @@ module _ {schedule b : List ℕ} {groups : ℕ} {f : made.Fund} {words rows plac
     (byte : (k : ℕ) → getD b k 0 < 256) {stood : List ℕ} (s : Stood groups (f .limits) (f .ranking) cells stood) {desks : List ℕ} (z : desks ≡ replicate deskCount 0)
     {v : ℕ} (e : v ≡ f .figures .«a3_sum» - f .figures .«a3_limit») where
   acc : Accepted b
-  acc = taken (t .passed)
+  acc = taken (t .rateable .passed)
 
   abbrev opening : List ℕ
   opening = set desks 0 v
@@ -168,10 +168,10 @@ module _ {schedule b : List ℕ} {groups : ℕ} {f : made.Fund} {words rows plac
   opening-is = rw (z, e, t .rated .a3-sum, t .rated .a3-limit)
 
   stood-at : (y : ExposureLine) → InBook b y → standsIn (fundIn schedule b) (y .group) (y .tier) ≡ getD stood (lineCell b y) 0
-  stood-at = stands-at acc (t .count) (t .rated) (t .exposed) s
+  stood-at = stands-at acc (t .rateable .count) (t .rated) (t .rateable .exposed) s
 
   cells-long : columns * topsTo b (C b) ≤ length stood
-  cells-long = omega (arith, s .size, t .exposed .size, t .count)
+  cells-long = omega (arith, s .size, t .rateable .exposed .size, t .rateable .count)
 
   inside : (y : ExposureLine) → InBook b y → lineCell b y < length stood
   inside y i = omega (arith, line-small b y i, cells-long)

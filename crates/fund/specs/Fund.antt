@@ -2,6 +2,7 @@
 --   Passed           a schedule and a book that refusals 1 to 13 and 17 let pass
 --   Lent Drew        the tables before and behind the passes over the book
 --   Cells Exposed Summed   the table of exposures by group, and the sums that no table holds
+--   Rateable         a fund that 14 and 15 let pass too, with that table
 --   LimitsOf RatedAs limits, ranking and figures of a fund that 14 and 15 let pass too
 --   nothing Made     what is made of a fund that they refuse, and of any
 use mathlib.Core.List.{List}
@@ -25,6 +26,7 @@ use Rattle.exposure.specs.Sums.{amountOf, W, allNet, unlimited}
 use Rattle.words.specs.Words.{_=?_}
 use Rattle.cascade.specs.Cascade.{tiers, ranked}
 use Rattle.rows.specs.Rows.{columns}
+use Rattle.parties.specs.Rows.{topsTo}
 use Rattle.assets.specs.declared.Values.{Values}
 use Rattle.assets.specs.Marks.{marked}
 use Rattle.assets.specs.Shares.{restOf, drawsOn}
@@ -75,6 +77,16 @@ pub record Exposed (b : List ℕ) (groups : ℕ) (cells : List ℕ) : Type 0 whe
   pub before : List ℕ
   pub posted : Cells b groups before cells
   pub size : columns * groups ≤ length cells
+
+-- passed    refusals 1 to 13 and 17 let the schedule and the book pass
+-- checked   so do 14 and 15
+-- count     the book has so many groups
+-- exposed   their exposures are in the cells
+pub record Rateable (schedule b : List ℕ) (groups : ℕ) (cells : List ℕ) : Type 0 where
+  pub passed : Passed schedule b
+  pub checked : fundCheck (bookOf b) ≡ Fine
+  pub count : groups ≡ topsTo b (C b)
+  pub exposed : Exposed b groups cells
 
 pub record Summed (b : List ℕ) (values : Values) (sums : Sums) : Type 0 where
   pub of-assets : FundSums b values

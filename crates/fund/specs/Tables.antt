@@ -1,26 +1,18 @@
 -- A fund that 14 and 15 let pass, and its tables, as every entry finds them once the fund is made.
 use mathlib.Core.List.{List}
-use mathlib.Core.Path.{_≡_}
 use Prim.Native.Nat.{ℕ, _<_}
 use lib.ListN.{length}
-use Rattle.refusal.specs.declared.Checked.the-variants.{Fine}
-use Rattle.book.specs.Records.{C, N, K}
-use Rattle.book.specs.Book.{bookOf}
-use Rattle.exposure.specs.Values.{fundCheck}
-use Rattle.parties.specs.Rows.{topsTo}
+use Rattle.book.specs.Records.{N, K}
 use Rattle.covering.specs.ByPlace.{PartedBook}
 use Rattle.cells.specs.Cells.{Rowed, Placed}
 use Rattle.fund.specs.declared.Fund.{Fund}
-use Rattle.fund.specs.Fund.{Passed, Exposed, RatedAs}
+use Rattle.fund.specs.Fund.{Rateable, RatedAs}
 
 -- by counterparty its word and its group's row; by asset where its remainder is posted; what each mitigant covers and what is left of each asset, in book
 -- order; and the exposures by group and column
 pub record FundTables (schedule book : List ℕ) (groups : ℕ) (f : Fund) (words rows places covered rests cells : List ℕ) : Type 0 where
-  pub passed : Passed schedule book
-  pub checked : fundCheck (bookOf book) ≡ Fine
-  pub count : groups ≡ topsTo book (C book)
+  pub rateable : Rateable schedule book groups cells
   pub rated : RatedAs schedule book f
-  pub exposed : Exposed book groups cells
   pub rowed : Rowed book words rows
   pub placed : Placed book places
   pub covered-size : K book < length covered

@@ -7,13 +7,11 @@ use refusal::Checked;
 use refusal::Refusal;
 ghost use mathlib.Core.Path.{_≡_};
 ghost use Rattle.refusal.specs.declared.Checked.the-variants.{Fine};
-ghost use Rattle.book.specs.Records.{C};
 ghost use Rattle.book.specs.Book.{bookOf};
 ghost use Rattle.exposure.specs.Values.{fundCheck};
 ghost use Rattle.exposure.specs.Sums.{W};
-ghost use Rattle.parties.specs.Rows.{topsTo};
 ghost use Rattle.assets.specs.Assets.{FundSums};
-ghost use Rattle.fund.specs.Fund.{Passed, Summed, Exposed, LimitsOf, RatedAs, nothing};
+ghost use Rattle.fund.specs.Fund.{Passed, Summed, Rateable, LimitsOf, RatedAs, nothing};
 
 // What the schedule gives for the fund's values.
 struct Limited {
@@ -62,7 +60,7 @@ pub fn rate(
     sums: Sums,
     cells: &[u64],
 ) -> Fund
-    requires { ⌜ (Passed (now schedule) (now book)) × (fundCheck (bookOf (now book)) ≡ Fine) × (groups ≡ topsTo (now book) (C (now book))) × (Summed (now book) values sums) × (Exposed (now book) groups (now cells)) ⌝ }
+    requires { ⌜ (Rateable (now schedule) (now book) groups (now cells)) × (Summed (now book) values sums) ⌝ }
     ensures { λ r. ⌜ RatedAs (now (schedule .entry)) (now (book .entry)) r ⌝ }
 {
     let l = limits_of(schedule, book, values, sums.w);

@@ -27,11 +27,8 @@ pub fund-tables : {schedule b : List ℕ} {groups : ℕ} {f : Fund} {words terms
 fund-tables {b = b} {rests₀ = rests₀} {places₀ = places₀} p count parties l z d checked rated =
     let nets : N b < length (filled (λ p. restOf (assetAt b p)) (N b) rests₀) = rw (filled-length (λ p. restOf (assetAt b p)) (N b) rests₀) (l .of-rests) in
     record {
-      passed = p;
-      checked = checked;
-      count = count;
+      rateable = record { passed = p; checked = checked; count = count; exposed = exposed d z };
       rated = rated;
-      exposed = exposed d z;
       rowed = rowed parties;
       placed = placed b places₀ (l .of-places) (d .at-places);
       covered-size = rw (d .amounts .parts, length-sets) (l .of-covered);

@@ -1,6 +1,7 @@
 -- An answer out of a fund's tables.
 --   answerAt answersAt   by an order of the tiers, the answer for a place and a kind, and those to a list's first n questions
 --   Answerable           what the tables are to be like for it
+--   AllAnswerable        and for every question of a list, with room for the answers
 use mathlib.Core.Bool.{Bool}
 use mathlib.Core.List.{List, map}
 use Prim.Native.Nat.{ℕ, _+_, _*_, _-_, _≤_, _<_}
@@ -11,7 +12,7 @@ use Rattle.cascade.specs.Cascade.{tiers, byTier}
 use Rattle.rows.specs.Rows.{columns}
 use Rattle.headroom.specs.Headroom.{roomIn, rowFrom, RankedBy}
 use Rattle.columns.specs.Column.{tierIn, digit}
-use Rattle.asking.specs.Questions.{placeAt, kindAt}
+use Rattle.asking.specs.Questions.{questionSize, answerSize, mostQuestions, placeAt, kindAt}
 
 -- where the row of a counterparty's group starts, and its exposures by tier
 abbrev pub startAt : List ℕ → ℕ → ℕ
@@ -40,3 +41,12 @@ pub record Answerable (limits ranking words rows cells : List ℕ) (place kind :
   pub row : startAt rows place + tiers ≤ length cells
   pub ranks : RankedBy limits ranking
   pub amounts : sum (exposuresAt rows cells place) tiers ≤ 900 * M
+
+-- few                       a list has no more questions
+-- asked-size answers-size   the bytes of the questions are there, and those for the answers
+-- each                      the tables answer every question
+pub record AllAnswerable (questions : List ℕ) (n : ℕ) (limits ranking words rows cells answers : List ℕ) : Type 0 where
+  pub few : n ≤ mostQuestions
+  pub asked-size : questionSize * n ≤ length questions
+  pub answers-size : answerSize * n ≤ length answers
+  pub each : (k : ℕ) → k < n → Answerable limits ranking words rows cells (placeAt questions k) (kindAt questions k)

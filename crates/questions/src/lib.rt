@@ -4,21 +4,13 @@ use fund::Fund;
 use refusal::Answer;
 use refusal::Refusal;
 ghost use mathlib.Core.Path.{_≡_};
-ghost use Prim.Native.Nat.{ℕ, _*_, _≤_, _<_};
-ghost use lib.ListN.{length};
 ghost use Rattle.wire.specs.Bytes.{placed};
 ghost use Rattle.wire.specs.Amounts.{amountsBytes};
-ghost use Rattle.refusal.specs.declared.Checked.the-variants.{Fine};
-ghost use Rattle.book.specs.Records.{C};
-ghost use Rattle.book.specs.Book.{bookOf};
-ghost use Rattle.exposure.specs.Values.{fundCheck};
 ghost use Rattle.headroom.specs.Headroom.{RankedBy};
 ghost use Rattle.columns.specs.Column.{Tiered};
-ghost use Rattle.parties.specs.Rows.{topsTo};
 ghost use Rattle.cells.specs.Cells.{Rowed};
-ghost use Rattle.fund.specs.Fund.{Passed, Exposed, RatedAs};
-ghost use Rattle.asking.specs.Questions.{questionSize, answerSize, mostQuestions, placeAt, kindAt};
-ghost use Rattle.questions.specs.Tables.{answerAt, answersAt, Answerable};
+ghost use Rattle.fund.specs.Fund.{Rateable, RatedAs};
+ghost use Rattle.questions.specs.Tables.{answerAt, answersAt, Answerable, AllAnswerable};
 ghost use Rattle.questions.specs.Headroom.{Asked};
 
 // The bytes of an answer.
@@ -57,7 +49,7 @@ fn put_answers(
     cells: &[u64],
     answers: &mut [u8],
 )
-    requires { ⌜ (n ≤ mostQuestions) × (questionSize * n ≤ length (now questions)) × (answerSize * n ≤ length (now answers)) × ((k : ℕ) → k < n → Answerable limits ranking (now words) (now rows) (now cells) (placeAt (now questions) k) (kindAt (now questions) k)) ⌝ }
+    requires { ⌜ AllAnswerable (now questions) n limits ranking (now words) (now rows) (now cells) (now answers) ⌝ }
     ensures { λ _. ⌜ ((q : RankedBy limits ranking) → now (answers .exit) ≡ placed (now (answers .entry)) 0 (amountsBytes (answersAt (q .order) limits (now (words .entry)) (now (rows .entry)) (now (cells .entry)) (now (questions .entry)) n))) ⌝ }
 {
     let tiers = columns::tiers();
@@ -83,7 +75,7 @@ pub fn finish(
     cells: &[u64],
     answers: &mut [u8],
 ) -> Answer
-    requires { ⌜ (Passed (now schedule) (now book)) × (fundCheck (bookOf (now book)) ≡ Fine) × (groups ≡ topsTo (now book) (C (now book))) × (RatedAs (now schedule) (now book) f) × (Rowed (now book) (now words) (now rows)) × (Exposed (now book) groups (now cells)) ⌝ }
+    requires { ⌜ (Rateable (now schedule) (now book) groups (now cells)) × (RatedAs (now schedule) (now book) f) × (Rowed (now book) (now words) (now rows)) ⌝ }
     ensures { λ r. ⌜ Asked (now (schedule .entry)) (now (book .entry)) (now (questions .entry)) (now (answers .entry)) (now (answers .exit)) r ⌝ }
 {
     let limits = f.limits;

@@ -2,13 +2,7 @@
 use fund::Fund;
 use refusal::Answer;
 use refusal::Refusal;
-ghost use mathlib.Core.Path.{_≡_};
-ghost use Rattle.refusal.specs.declared.Checked.the-variants.{Fine};
-ghost use Rattle.book.specs.Records.{C};
-ghost use Rattle.book.specs.Book.{bookOf};
-ghost use Rattle.exposure.specs.Values.{fundCheck};
-ghost use Rattle.parties.specs.Rows.{topsTo};
-ghost use Rattle.fund.specs.Fund.{Passed, Exposed, RatedAs};
+ghost use Rattle.fund.specs.Fund.{Rateable, RatedAs};
 ghost use Rattle.report.specs.Answer.{Answered};
 ghost use Rattle.report.specs.Tables.{Headed, Room, Lists};
 
@@ -24,7 +18,7 @@ pub fn finish(
     list: &mut [u16],
     report: &mut [u8],
 ) -> Answer
-    requires { ⌜ (Passed (now schedule) (now book)) × (fundCheck (bookOf (now book)) ≡ Fine) × (groups ≡ topsTo (now book) (C (now book))) × (RatedAs (now schedule) (now book) f) × (Headed (now book) (now heads)) × (Exposed (now book) groups (now cells)) × (Room groups (now sets) (now list)) ⌝ }
+    requires { ⌜ (Rateable (now schedule) (now book) groups (now cells)) × (RatedAs (now schedule) (now book) f) × (Headed (now book) (now heads)) × (Room groups (now sets) (now list)) ⌝ }
     ensures tables { λ r. ⌜ Lists (now (cells .entry)) groups (f .ranking) (now (sets .entry)) (now (sets .exit)) (now (list .entry)) (now (list .exit)) ⌝ }
     ensures answered { λ r. ⌜ Answered (now (schedule .entry)) (now (book .entry)) (now (report .entry)) (now (report .exit)) r ⌝ }
 {

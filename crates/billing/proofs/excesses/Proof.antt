@@ -14,16 +14,16 @@ use Rattle.billing.proofs.excesses.Statement.{statement}
 use Rattle.billing.proofs.excesses.Tie as tie
 
 header-at-requires : tie.Need-header-at-requires
-header-at-requires c κs = let s = c .before .before .before .before .before .before .before .before .before .before .before .before in omega (arith, taken (s .pre .0 .passed) .size)
+header-at-requires c κs = let s = c .before .before .before .before .before .before .before .before .before .before .before .before in omega (arith, taken (s .pre .0 .rateable .passed) .size)
 
 assets-of-requires : tie.Need-assets-of-requires
-assets-of-requires c κs = let s = c .before .before .before .before .before .before .before .before .before .before .before .before .before .before in omega (arith, taken (s .pre .0 .passed) .size)
+assets-of-requires c κs = let s = c .before .before .before .before .before .before .before .before .before .before .before .before .before .before in omega (arith, taken (s .pre .0 .rateable .passed) .size)
 
 slice-write-desks : tie.Need-slice-write-desks
 slice-write-desks c = let s = c .before .before .before .before .before .before .before .before .before .before .before .before .before .before .before .before .before in omega (arith, ap length (s .pre .1), length-replicate {A = ℕ} deskCount 0)
 
 stand-requires : tie.Need-stand-requires
-stand-requires c κs = let t = c .before .before .before .before .before .before .before .before .before .before .before .before .before .before .before .before .before .before .pre .0 in standable (taken (t .passed)) (t .count) (t .rated) (t .exposed)
+stand-requires c κs = let t = c .before .before .before .before .before .before .before .before .before .before .before .before .before .before .before .before .before .before .pre .0 in standable (taken (t .rateable .passed)) (t .rateable .count) (t .rated) (t .rateable .exposed)
 
 -- a book is bytes
 byte : (d : tie.After-stand) (k : ℕ) → getD (now (d .before .before .before .before .before .before .before .before .before .before .before .before .before .before .before .before .before .before .before .args .book)) k 0 < 256
@@ -36,7 +36,7 @@ serve-requires c κs =
     let t = s .pre .0 in
     let h = d .before .before .before .before .before .before .header-at .ensures in
     record {
-      accepted = taken (t .passed);
+      accepted = taken (t .rateable .passed);
       records = d .before .before .before .before .assets-of .ensures;
       section = mitigants-from (now (s .args .book)) h (d .before .before .before .mitigants-start .ensures);
       count = header-counts (now (s .args .book)) h .1;

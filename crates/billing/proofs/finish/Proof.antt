@@ -14,12 +14,12 @@ use Rattle.billing.proofs.finish.Tie as tie
 returns : tie.Need-returns
 returns c =
     let s = c .before .before .before .before .before .before .before .before .before .before in
-    (refl, bad-rate (now (s .args .schedule)) (now (s .args .book)) (s .args .rate) (now (s .args .bills)) (s .pre .passed) (s .pre .checked) (c .if1 .taken))
+    (refl, bad-rate (now (s .args .schedule)) (now (s .args .book)) (s .args .rate) (now (s .args .bills)) (s .pre .rateable .passed) (s .pre .rateable .checked) (c .if1 .taken))
 
 returns-2 : tie.Need-returns-2
 returns-2 c =
     let s = c .before .before .before .before .before .before .before .before .before .before .before in
-    (refl, short (now (s .args .schedule)) (now (s .args .book)) (s .args .rate) (now (s .args .bills)) (s .pre .passed) (s .pre .checked) (c .before .if1 .left) (c .if2 .taken))
+    (refl, short (now (s .args .schedule)) (now (s .args .book)) (s .args .rate) (now (s .args .bills)) (s .pre .rateable .passed) (s .pre .rateable .checked) (c .before .if1 .left) (c .if2 .taken))
 
 -- a book is bytes
 byte : (d : tie.After-excesses) (k : ℕ) → getD (now (d .before .before .before .before .before .before .before .before .before .before .before .before .before .before .args .book)) k 0 < 256
@@ -31,7 +31,7 @@ put-requires c κs =
     let s = d .before .before .before .before .before .before .before .before .before .before .before .before .before .before in
     let e = d .excesses .ensures in (
       omega (arith, e .size),
-      desks-few (now (s .args .schedule)) (now (s .args .book)) (taken (s .pre .passed)) (byte d) e,
+      desks-few (now (s .args .schedule)) (now (s .args .book)) (taken (s .pre .rateable .passed)) (byte d) e,
       d .before .before .before .before .if1 .left,
       d .before .before .before .if2 .left,
     )
@@ -42,7 +42,7 @@ returns-3 c =
     let s = d .before .before .before .before .before .before .before .before .before .before .before .before .before .before in
     let e = d .excesses .ensures in (
       e .left,
-      billed (now (s .args .schedule)) (now (s .args .book)) (taken (s .pre .passed)) (byte d) e (s .args .rate) (now (s .args .bills)) (s .pre .passed) (s .pre .checked) (d .before .before .before .before .if1 .left) (d .before .before .before .if2 .left)
+      billed (now (s .args .schedule)) (now (s .args .book)) (taken (s .pre .rateable .passed)) (byte d) e (s .args .rate) (now (s .args .bills)) (s .pre .rateable .passed) (s .pre .rateable .checked) (d .before .before .before .before .if1 .left) (d .before .before .before .if2 .left)
           (c .before .before .put .ensures),
     )
 

@@ -15,18 +15,18 @@ use Rattle.fund.proofs.rate.Tie as tie
 
 limits-of-requires : tie.Need-limits-of-requires
 limits-of-requires c κs =
-    let s = c .before .before .before in (s .pre .0, s .pre .1, s .pre .3 .of-assets, ap (λ (x : Sums). x .w) (s .pre .3 .of-exposures))
+    let s = c .before .before .before in (s .pre .0 .passed, s .pre .0 .checked, s .pre .1 .of-assets, ap (λ (x : Sums). x .w) (s .pre .1 .of-exposures))
 
 add-unlimited : tie.Need-add-t11
 add-unlimited c =
-    let s = c .before .before .before .before .before .before .before .before in let r = unlimited-fits (taken (s .pre .0)) (s .pre .3) in omega (arith, r)
+    let s = c .before .before .before .before .before .before .before .before in let r = unlimited-fits (taken (s .pre .0 .passed)) (s .pre .1) in omega (arith, r)
 
 sum-requires : tie.Need-sum-requires
 sum-requires c κs =
     let s = c .before .before .before .before .before .before .before .before in
-    let a = taken (s .pre .0) in
+    let a = taken (s .pre .0 .passed) in
     let few = tops-le (now (s .args .book)) (C (now (s .args .book))) in
-    (omega (arith, a .counterparties, s .pre .2), s .pre .4 .size, limit-most (s .pre .0) (s .pre .1) (c .before .before .before .before .limits-of .ensures .limits))
+    (omega (arith, a .counterparties, s .pre .0 .count), s .pre .0 .exposed .size, limit-most (s .pre .0 .passed) (s .pre .0 .checked) (c .before .before .before .before .limits-of .ensures .limits))
 
 returns : tie.Need-returns
 returns c =
@@ -39,9 +39,9 @@ returns c =
       ranking = c .rank .ensures .0 ∙ ap (λ (us : List ℕ). ranked (byLimit (byTier us)) tiers) (l .unrounded);
       vaf = l .vaf;
       stressed = l .stressed;
-      all-net = s .pre .3 .of-assets .all;
-      unlimited = unlimited-is (taken (s .pre .0)) (s .pre .3);
-      a3-sum = q .0 ∙ a3-sum-is (now (s .args .schedule)) (l .limits) (s .pre .2) (s .pre .4);
+      all-net = s .pre .1 .of-assets .all;
+      unlimited = unlimited-is (taken (s .pre .0 .passed)) (s .pre .1);
+      a3-sum = q .0 ∙ a3-sum-is (now (s .args .schedule)) (l .limits) (s .pre .0 .count) (s .pre .0 .exposed);
       a3-within = q .1;
       a3-limit = l .a3;
     }

@@ -21,7 +21,7 @@ rate-requires : tie.Need-rate-requires
 rate-requires c κs =
     let s = c .before .before .before .before .before .before .before .before .before .before .before .before .before .before .before .before .before .before .before .before .before .before .before .before .before .before .before .before .before .before .before .before .before .before .before .before .before .before .before .before in
     let t = c .before .before .before .before .before .before .before .before .before .before .before .before .before .before .before .before .before .before .before .before .draw .ensures in
-    (s .pre .0, sym (c .before .before .before .check .ensures) ∙ c .before .enum-told .given .1, s .pre .1, t .1, exposed (t .0) (s .pre .4))
+    (record { passed = s .pre .0; checked = sym (c .before .before .before .check .ensures) ∙ c .before .enum-told .given .1; count = s .pre .1; exposed = exposed (t .0) (s .pre .4) }, t .1)
 
 returns : tie.Need-returns
 returns c =

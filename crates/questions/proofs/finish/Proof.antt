@@ -34,12 +34,12 @@ list-good :
 list-good c = sym (list-is (c .before)) ∙ not-false _ (c .if1 .left)
 
 header-at-requires : tie.Need-header-at-requires
-header-at-requires c κs = let a = taken (c .before .before .before .before .before .before .before .before .before .pre .0) in omega (arith, a .size)
+header-at-requires c κs = let a = taken (c .before .before .before .before .before .before .before .before .before .pre .0 .passed) in omega (arith, a .size)
 
 returns : tie.Need-returns
 returns c =
     let s = c .before .before .before .before .before .before .before .before .before .before .before .before in
-    bad-list (now (s .args .schedule)) (now (s .args .book)) (now (s .args .questions)) (s .pre .0) (s .pre .1) (now (s .args .answers)) (sym (list-is (c .before)) ∙ not-true _ (c .if1 .taken))
+    bad-list (now (s .args .schedule)) (now (s .args .book)) (now (s .args .questions)) (s .pre .0 .passed) (s .pre .0 .checked) (now (s .args .answers)) (sym (list-is (c .before)) ∙ not-true _ (c .if1 .taken))
 
 mul-size : tie.Need-mul-size
 mul-size c = record { fits = omega (arith, listed _ _ (list-good c) .few) }
@@ -47,7 +47,7 @@ mul-size c = record { fits = omega (arith, listed _ _ (list-good c) .few) }
 returns-2 : tie.Need-returns-2
 returns-2 c =
     let s = c .before .before .before .before .before .before .before .before .before .before .before .before .before in
-    short (now (s .args .schedule)) (now (s .args .book)) (now (s .args .questions)) (s .pre .0) (s .pre .1) (now (s .args .answers)) (list-good (c .before)) (c .if2 .taken)
+    short (now (s .args .schedule)) (now (s .args .book)) (now (s .args .questions)) (s .pre .0 .passed) (s .pre .0 .checked) (now (s .args .answers)) (list-good (c .before)) (c .if2 .taken)
 
 put-answers-requires : tie.Need-put-answers-requires
 put-answers-requires c κs =
@@ -56,7 +56,12 @@ put-answers-requires c κs =
     let b = now (s .args .book) in
     let q = now (s .args .questions) in
     let l = listed (C b) q (list-good (c .before .before)) in
-    (l .few, omega (arith, l .whole), c .before .if2 .left, λ k h. answerable (taken (p .0)) (p .2) (p .3) (p .4) (p .5) (in-range (C b) (placeAt q k) (kindAt q k) (l .good k h)))
+    record {
+      few = l .few;
+      asked-size = omega (arith, l .whole);
+      answers-size = c .before .if2 .left;
+      each = λ k h. answerable (taken (p .0 .passed)) (p .0 .count) (p .1) (p .2) (p .0 .exposed) (in-range (C b) (placeAt q k) (kindAt q k) (l .good k h));
+    }
 
 returns-3 : tie.Need-returns-3
 returns-3 c =
@@ -66,8 +71,8 @@ returns-3 c =
     let b = now (s .args .book) in
     let q = now (s .args .questions) in
     let e = list-good (c .before .before .before .before .before) in
-    let put = c .before .before .put-answers .ensures (ranked-by (p .3)) ∙ ap (placed (now (s .args .answers)) 0) (answers-are schedule b q (taken (p .0)) (p .2) (p .3) (p .4) (p .5) (listed (C b) q e)) in
-    asked-for schedule b q (p .0) (p .1) e (c .before .before .before .before .if2 .left) put
+    let put = c .before .before .put-answers .ensures (ranked-by (p .1)) ∙ ap (placed (now (s .args .answers)) 0) (answers-are schedule b q (taken (p .0 .passed)) (p .0 .count) (p .1) (p .2) (p .0 .exposed) (listed (C b) q e)) in
+    asked-for schedule b q (p .0 .passed) (p .0 .checked) e (c .before .before .before .before .if2 .left) put
 
 pub finish-spec : {M : Type 1} → statement M
 finish-spec =

@@ -53,7 +53,7 @@ slice-aggregate-answer c = search needs
 answer-requires : tie.Need-answer-requires Inv-loop μ-loop
 answer-requires c κs =
     let p = c .before .before .before .before .before .before .before .before .before .before .before .pre in
-    (rw (c .before .before .u16-at .ensures) (p .3 (c .before .before .before .before .loop .k) (omega arith)), c .before .before .before .before .before .tiers .ensures)
+    (rw (c .before .before .u16-at .ensures) (p .each (c .before .before .before .before .loop .k) (omega arith)), c .before .before .before .before .before .tiers .ensures)
 
 mul-put-u64 : tie.Need-mul-put-u64 Inv-loop μ-loop
 mul-put-u64 c = record { fits = omega arith }
