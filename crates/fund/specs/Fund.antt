@@ -1,6 +1,7 @@
 -- What the fund's functions start from and leave.
 --   Passed           a schedule and a book that refusals 1 to 13 and 17 let pass
 --   Lent Drew        the tables before and behind the passes over the book
+--   Provided         what these passes start from: so many groups, and the tables
 --   Cells Exposed Summed   the table of exposures by group, and the sums that no table holds
 --   Rateable         a fund that 14 and 15 let pass too, with that table
 --   LimitsOf RatedAs limits, ranking and figures of a fund that 14 and 15 let pass too
@@ -26,7 +27,7 @@ use Rattle.exposure.specs.Sums.{amountOf, W, allNet, unlimited}
 use Rattle.words.specs.Words.{_=?_}
 use Rattle.cascade.specs.Cascade.{tiers, ranked}
 use Rattle.rows.specs.Rows.{columns}
-use Rattle.parties.specs.Rows.{topsTo}
+use Rattle.parties.specs.Rows.{topsTo, Parties}
 use Rattle.assets.specs.declared.Values.{Values}
 use Rattle.assets.specs.Marks.{marked}
 use Rattle.assets.specs.Shares.{restOf, drawsOn}
@@ -53,6 +54,14 @@ pub record Lent (b starts draws halves rests places covered : List ℕ) : Type 0
   pub of-covered : K b < length covered
   pub unmarked : (q : ℕ) → _≡_ {A = ℕ} (getD starts q 0) 0
   pub undrawn : (q : ℕ) → _≡_ {A = ℕ} (getD halves q 0) 0
+
+-- count     the book has so many groups
+-- parties   the tables by counterparty are made
+-- lent      those that the passes fill are long enough, and zeros where they have to be
+pub record Provided (b : List ℕ) (groups : ℕ) (words terms rows starts draws halves rests places covered : List ℕ) : Type 0 where
+  pub count : groups ≡ topsTo b (C b)
+  pub parties : Parties b words terms rows
+  pub lent : Lent b starts draws halves rests places covered
 
 -- what no limit is put on, and W
 abbrev pub sumsOf : List ℕ → Sums

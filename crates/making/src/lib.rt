@@ -3,12 +3,9 @@ use assets::Values;
 use cells::Sums;
 use fund::Fund;
 use refusal::Checked;
-ghost use mathlib.Core.Path.{_≡_};
-ghost use Rattle.book.specs.Records.{C};
 ghost use Rattle.book.specs.Accepted.{Accepted};
-ghost use Rattle.parties.specs.Rows.{topsTo, Parties};
 ghost use Rattle.cells.specs.Cells.{Zeros};
-ghost use Rattle.fund.specs.Fund.{Passed, Lent, Drew, Summed, Made};
+ghost use Rattle.fund.specs.Fund.{Passed, Provided, Drew, Summed, Made};
 
 // The sums over the assets, and those over the exposures that no table holds.
 struct Drawn {
@@ -31,7 +28,7 @@ fn draw(
     covered: &mut [u64],
     cells: &mut [u64],
 ) -> Drawn
-    requires { ⌜ (Accepted (now book)) × (groups ≡ topsTo (now book) (C (now book))) × (Parties (now book) (now words) (now terms) (now rows)) × (Lent (now book) (now starts) (now draws) (now halves) (now rests) (now places) (now covered)) × (Zeros groups (now cells)) ⌝ }
+    requires { ⌜ (Accepted (now book)) × (Provided (now book) groups (now words) (now terms) (now rows) (now starts) (now draws) (now halves) (now rests) (now places) (now covered)) × (Zeros groups (now cells)) ⌝ }
     ensures tables { λ r. ⌜ Drew (now (book .entry)) groups (now (starts .entry)) (now (draws .entry)) (now (halves .entry)) (now (rests .entry)) (now (places .entry)) (now (covered .entry)) (now (cells .entry)) (now (starts .exit)) (now (draws .exit)) (now (halves .exit)) (now (rests .exit)) (now (places .exit)) (now (covered .exit)) (now (cells .exit)) ⌝ }
     ensures sums { λ r. ⌜ Summed (now (book .entry)) (r .values) (r .sums) ⌝ }
 {
@@ -87,7 +84,7 @@ pub fn make(
     covered: &mut [u64],
     cells: &mut [u64],
 ) -> Fund
-    requires { ⌜ (Passed (now schedule) (now book)) × (groups ≡ topsTo (now book) (C (now book))) × (Parties (now book) (now words) (now terms) (now rows)) × (Lent (now book) (now starts) (now draws) (now halves) (now rests) (now places) (now covered)) × (Zeros groups (now cells)) ⌝ }
+    requires { ⌜ (Passed (now schedule) (now book)) × (Provided (now book) groups (now words) (now terms) (now rows) (now starts) (now draws) (now halves) (now rests) (now places) (now covered)) × (Zeros groups (now cells)) ⌝ }
     ensures tables { λ r. ⌜ Drew (now (book .entry)) groups (now (starts .entry)) (now (draws .entry)) (now (halves .entry)) (now (rests .entry)) (now (places .entry)) (now (covered .entry)) (now (cells .entry)) (now (starts .exit)) (now (draws .exit)) (now (halves .exit)) (now (rests .exit)) (now (places .exit)) (now (covered .exit)) (now (cells .exit)) ⌝ }
     ensures made { λ r. ⌜ Made (now (schedule .entry)) (now (book .entry)) r ⌝ }
 {

@@ -8,12 +8,13 @@ use Rattle.book.specs.Records.{C, N, K}
 use Rattle.rows.specs.Rows.{columns}
 use Rattle.parties.specs.Rows as parties
 use Rattle.parties.specs.Rows.{topsTo}
-use Rattle.parties.specs.RowLaws.{tops-le}
+use Rattle.parties.specs.RowLaws.{tops-le, parties-of}
 use Rattle.cascade.specs.Cascade.{tiers}
 use Rattle.cells.specs.Cells.{Zeros}
-use Rattle.fund.specs.Fund.{Lent}
+use Rattle.fund.specs.Fund.{Passed, Lent}
 use Rattle.report.specs.Tables.{Room}
 use Rattle.billing.proofs.Written.{at-zeros}
+use Rattle.opening.specs.Tables.{Prepared}
 
 long : (n : ℕ) → length (replicate {A = ℕ} n 0) ≡ n
 long n = length-replicate {A = ℕ} n 0
@@ -54,3 +55,15 @@ groups-le b e = omega (arith, tops-le b (C b))
 pub filled : {b : List ℕ} {c groups : ℕ} {words₀ terms₀ tops₀ rows₀ heads₀ words terms tops rows heads : List ℕ} → c ≡ C b
     → parties.Filled b c words₀ terms₀ tops₀ rows₀ heads₀ words terms tops rows heads groups → parties.Filled b (C b) words₀ terms₀ tops₀ rows₀ heads₀ words terms tops rows heads groups
 filled e f = rw e at f
+
+-- behind that pass, in tables for c counterparties, n assets and k mitigants
+pub prepared : {schedule b : List ℕ} (c n k : ℕ) → Passed schedule b → C b ≤ c → N b ≤ n → K b ≤ k → {groups : ℕ} {words terms tops rows heads : List ℕ}
+    → parties.Filled b (C b) (replicate (c + 1) 0) (replicate (c + 1) 0) (replicate (c + 1) 0) (replicate (c + 1) 0) (replicate (c + 1) 0) words terms tops rows heads groups
+    → Prepared schedule b groups words terms rows heads (replicate (k + 2) 0) (replicate (n + 1) 0) (replicate (c + 1) 0) (replicate (n + 1) 0) (replicate (n + 1) 0) (replicate (k + 1) 0)
+prepared {b = b} c n k p g h i f =
+    let r = zero-parties (C b) c g in
+    record {
+      passed = p;
+      provided = record { count = f .count; parties = parties-of r f; lent = zero-lent b c n k g h i };
+      headed = record { before = replicate (c + 1) 0; room = r .heads-size; stored = f .of-heads };
+    }

@@ -7,12 +7,11 @@ use wanted::Wanted;
 ghost use mathlib.Core.Path.{_≡_};
 ghost use Prim.Native.Nat.{_≤_};
 ghost use Rattle.book.specs.Records.{C};
-ghost use Rattle.parties.specs.Rows.{topsTo, Parties};
 ghost use Rattle.cells.specs.Cells.{Zeros};
-ghost use Rattle.fund.specs.Fund.{Passed, Lent};
-ghost use Rattle.report.specs.Tables.{Headed, Room};
+ghost use Rattle.fund.specs.Fund.{Passed};
+ghost use Rattle.report.specs.Tables.{Room};
 ghost use Rattle.wanted.specs.Wanted.{Promised};
-ghost use Rattle.opening.specs.Tables.{Within, smallSize, mediumSize, fewGroups};
+ghost use Rattle.opening.specs.Tables.{Within, Prepared, smallSize, mediumSize, fewGroups};
 
 // Tables for books of three sizes: zeroing the largest takes longer than a small book. `FEW` groups are a size of their own among the largest books.
 const SMALL: usize = 16;
@@ -43,7 +42,7 @@ fn answer(
     asked: &[u8],
     lent: &mut [u8],
 ) -> Answer
-    requires { ⌜ (Passed (now schedule) (now book)) × (groups ≡ topsTo (now book) (C (now book))) × (Parties (now book) (now words) (now terms) (now rows)) × (Headed (now book) (now heads)) × (Lent (now book) (now starts) (now draws) (now halves) (now rests) (now places) (now covered)) × (Zeros groups (now cells)) × (Room groups (now sets) (now list)) ⌝ }
+    requires { ⌜ (Prepared (now schedule) (now book) groups (now words) (now terms) (now rows) (now heads) (now starts) (now draws) (now halves) (now rests) (now places) (now covered)) × (Zeros groups (now cells)) × (Room groups (now sets) (now list)) ⌝ }
     ensures { λ r. ⌜ Promised wanted (now (schedule .entry)) (now (book .entry)) (now (asked .entry)) (now (lent .entry)) (now (lent .exit)) r ⌝ }
 {
     let f = making::make(
@@ -220,7 +219,7 @@ fn few(
     asked: &[u8],
     lent: &mut [u8],
 ) -> Answer
-    requires { ⌜ (Passed (now schedule) (now book)) × (groups ≡ topsTo (now book) (C (now book))) × (Parties (now book) (now words) (now terms) (now rows)) × (Headed (now book) (now heads)) × (Lent (now book) (now starts) (now draws) (now halves) (now rests) (now places) (now covered)) × (groups ≤ fewGroups) ⌝ }
+    requires { ⌜ (Prepared (now schedule) (now book) groups (now words) (now terms) (now rows) (now heads) (now starts) (now draws) (now halves) (now rests) (now places) (now covered)) × (groups ≤ fewGroups) ⌝ }
     ensures { λ r. ⌜ Promised wanted (now (schedule .entry)) (now (book .entry)) (now (asked .entry)) (now (lent .entry)) (now (lent .exit)) r ⌝ }
 {
     let mut cells = [0u64; COLUMNS * FEW];
@@ -268,7 +267,7 @@ fn many(
     asked: &[u8],
     lent: &mut [u8],
 ) -> Answer
-    requires { ⌜ (Passed (now schedule) (now book)) × (groups ≡ topsTo (now book) (C (now book))) × (Parties (now book) (now words) (now terms) (now rows)) × (Headed (now book) (now heads)) × (Lent (now book) (now starts) (now draws) (now halves) (now rests) (now places) (now covered)) ⌝ }
+    requires { ⌜ Prepared (now schedule) (now book) groups (now words) (now terms) (now rows) (now heads) (now starts) (now draws) (now halves) (now rests) (now places) (now covered) ⌝ }
     ensures { λ r. ⌜ Promised wanted (now (schedule .entry)) (now (book .entry)) (now (asked .entry)) (now (lent .entry)) (now (lent .exit)) r ⌝ }
 {
     let mut cells = [0u64; COLUMNS * book::MOST_COUNTERPARTIES];

@@ -13,14 +13,14 @@ fill-requires c κs =
     let s = c .before .before .before .before .before .before .before .before .before .before .before .before .before .before .before .before .before .before .before .before .before in
     let e = c .before .before .before .before .before .before .before .before .before .header-at .ensures in
     let B = now (s .args .book) in
-    (s .pre .0, c .before .before .before .before .before .before .assets-of .ensures, header-counts B e .1, s .pre .2, lent (s .pre .3))
+    (s .pre .0, c .before .before .before .before .before .before .assets-of .ensures, header-counts B e .1, s .pre .1 .parties, lent (s .pre .1 .lent))
 
 cover-requires : tie.Need-cover-requires
 cover-requires c κs =
     let s = c .before .before .before .before .before .before .before .before .before .before .before .before .before .before .before .before .before .before .before .before .before .before .before .before .before .before .before .before .before .before .before .before .before .before .before .before .before .before .before .before .before in
     let e = c .before .before .before .before .before .before .before .before .before .before .before .before .before .before .before .before .before .before .before .before .before .before .before .before .before .before .before .before .before .header-at .ensures in
     let B = now (s .args .book) in
-    (s .pre .0, mitigants-from B e (c .before .before .before .before .before .before .before .before .before .before .before .before .before .before .before .before .before .before .before .before .before .before .before .before .before .mitigants-start .ensures), header-counts B e .2, known (s .pre .2), pass-ready (s .pre .3) (s .pre .0) (c .before .before .before .before .before .before .before .before .before .before .before .before .before .before .before .before .before .before .before .fill .ensures) (c .before .before .before .before .before .before .before .halve .ensures), omega (arith, header-counts B e .2, s .pre .3 .of-covered))
+    (s .pre .0, mitigants-from B e (c .before .before .before .before .before .before .before .before .before .before .before .before .before .before .before .before .before .before .before .before .before .before .before .before .before .mitigants-start .ensures), header-counts B e .2, known (s .pre .1 .parties), pass-ready (s .pre .1 .lent) (s .pre .0) (c .before .before .before .before .before .before .before .before .before .before .before .before .before .before .before .before .before .before .before .fill .ensures) (c .before .before .before .before .before .before .before .halve .ensures), omega (arith, header-counts B e .2, s .pre .1 .lent .of-covered))
 
 post-requires : tie.Need-post-requires
 post-requires c κs =
@@ -33,11 +33,11 @@ post-requires c κs =
       section = mitigants-from B e (c .before .before .before .before .before .before .before .before .before .before .before .before .before .before .before .before .before .before .before .before .before .before .before .before .before .before .before .before .before .before .before .before .before .before .before .before .mitigants-start .ensures);
       assets = header-counts B e .1;
       mitigants = header-counts B e .2;
-      count = s .pre .1;
-      rowed = rowed (s .pre .2);
-      tabled = pass-tabled (s .pre .3) (s .pre .0) v (c .before .before .before .before .before .before .before .before .before .before .before .before .before .before .before .before .before .before .halve .ensures) (c .before .before .before .before .before .before .before .before .before .before .cover .ensures);
-      placed = pass-placed (s .pre .3) (s .pre .0) v;
-      zeros = s .pre .4;
+      count = s .pre .1 .count;
+      rowed = rowed (s .pre .1 .parties);
+      tabled = pass-tabled (s .pre .1 .lent) (s .pre .0) v (c .before .before .before .before .before .before .before .before .before .before .before .before .before .before .before .before .before .before .halve .ensures) (c .before .before .before .before .before .before .before .before .before .before .cover .ensures);
+      placed = pass-placed (s .pre .1 .lent) (s .pre .0) v;
+      zeros = s .pre .2;
     }
 
 -- each table as long as it was, behind every pass that it was lent to
@@ -69,7 +69,7 @@ returns c =
     let h = c .before .before .before .before .before .before .before .before .before .before .before .before .before .before .before .before .before .before .before .before .before .halve .ensures in
     let k = c .before .before .before .before .before .before .before .before .before .before .before .before .before .cover .ensures in
     let t = c .before .before .post .ensures in
-    (drew (s .pre .3) (s .pre .0) v h k t, summed (s .pre .3) (s .pre .0) v h k t)
+    (drew (s .pre .1 .lent) (s .pre .0) v h k t, summed (s .pre .1 .lent) (s .pre .0) v h k t)
 
 pub draw-spec : {M : Type 1} → statement M
 draw-spec =

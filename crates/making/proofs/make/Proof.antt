@@ -8,7 +8,7 @@ use Rattle.making.proofs.make.Tie as tie
 
 draw-requires : tie.Need-draw-requires
 draw-requires c κs =
-    let s = c .before .before .before .before .before .before .before .before .before .before .before .before .before .before .before .before .before .before .before in (taken (s .pre .0), s .pre .1, s .pre .2, s .pre .3, s .pre .4)
+    let s = c .before .before .before .before .before .before .before .before .before .before .before .before .before .before .before .before .before .before .before in (taken (s .pre .0), s .pre .1, s .pre .2)
 
 check-requires : tie.Need-check-requires
 check-requires c κs =
@@ -21,7 +21,7 @@ rate-requires : tie.Need-rate-requires
 rate-requires c κs =
     let s = c .before .before .before .before .before .before .before .before .before .before .before .before .before .before .before .before .before .before .before .before .before .before .before .before .before .before .before .before .before .before .before .before .before .before .before .before .before .before .before .before in
     let t = c .before .before .before .before .before .before .before .before .before .before .before .before .before .before .before .before .before .before .before .before .draw .ensures in
-    (record { passed = s .pre .0; checked = sym (c .before .before .before .check .ensures) ∙ c .before .enum-told .given .1; count = s .pre .1; exposed = exposed (t .0) (s .pre .4) }, t .1)
+    (record { passed = s .pre .0; checked = sym (c .before .before .before .check .ensures) ∙ c .before .enum-told .given .1; count = s .pre .1 .count; exposed = exposed (t .0) (s .pre .2) }, t .1)
 
 returns : tie.Need-returns
 returns c =

@@ -13,14 +13,14 @@ finish-requires c κs =
     let p = s .pre in
     let k = c .before .before .before .before .before .before .before .before .before .before .before .before .before .before .before .before .before .before .before .before .before .before .before .make in
     let fine = made-fine (now (s .args .schedule)) (now (s .args .book)) (k .result) (k .ensures .1) (c .before .before .before .before .before .before .before .enum-told .given .1) in
-    (fund-tables (p .0) (p .1) (p .2) (p .4) (p .5) (k .ensures .0) (fine .0) (fine .1), p .3, p .6)
+    (fund-tables (p .0 .passed) (p .0 .provided) (p .1) (k .ensures .0) (fine .0) (fine .1), p .0 .headed, p .2)
 
 returns : tie.Need-returns
 returns c =
     let s = c .before .before .before .before .before .before .before .before .before .before .before .before .before .before .before .before .before .before .before .before .before .before .before .before .before .before .before .before .before .before .before .before .before .before .before .before .before .before .before .before .before .before in
     let k = c .before .before .before .before .before .before .before .before .before .before .before .before .before .before .before .before .before .make in
     let bad = made-bad (now (s .args .schedule)) (now (s .args .book)) (k .result) (k .ensures .1) (c .before .found .given .1) in
-    bad-fund (now (s .args .schedule)) (now (s .args .book)) (now (s .args .asked)) (now (s .args .lent)) (s .args .wanted) (s .pre .0) bad
+    bad-fund (now (s .args .schedule)) (now (s .args .book)) (now (s .args .asked)) (now (s .args .lent)) (s .args .wanted) (s .pre .0 .passed) bad
 
 pub answer-spec : {M : Type 1} → statement M
 answer-spec =

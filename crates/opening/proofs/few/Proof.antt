@@ -6,7 +6,7 @@ use Rattle.opening.proofs.few.Tie as tie
 
 answer-requires : tie.Need-answer-requires
 answer-requires c κs =
-    let s = c .before .before .before .before .before .before .before .before .before .before .before .before .before .before .before .before .before .before .before .before .before .before .before .before in (s .pre .0, s .pre .1, s .pre .2, s .pre .3, s .pre .4, zero-cells _ 64 (s .pre .5), zero-room _ 64 (s .pre .5))
+    let s = c .before .before .before .before .before .before .before .before .before .before .before .before .before .before .before .before .before .before .before .before .before .before .before .before in (s .pre .0, zero-cells _ 64 (s .pre .1), zero-room _ 64 (s .pre .1))
 
 pub few-spec : {M : Type 1} → statement M
 few-spec =

@@ -1,12 +1,7 @@
 -- `large`: its tables are long enough for any book, and zeros.
 use native.Mathlib.Omega.{arith}
-use denote.Ref.{now}
 use Rattle.fund.proofs.Limits.{taken}
-use Prim.Native.Nat.{_+_}
-use lib.ListN.{replicate}
-use Rattle.book.specs.Records.{C}
-use Rattle.parties.specs.RowLaws.{parties-of}
-use Rattle.opening.proofs.Zeros.{zero-parties, zero-lent, filled}
+use Rattle.opening.proofs.Zeros.{zero-parties, filled, prepared}
 use borrow.Author.Needs.{needs}
 use Rattle.opening.proofs.large.Statement.{statement}
 use Rattle.opening.proofs.large.Tie as tie
@@ -18,20 +13,16 @@ fill-requires c κs =
 few-requires : tie.Need-few-requires
 few-requires c κs =
     let s = c .before .before .before .before .before .before .before .before .before .before .before .before .before .before .before .before .before .before .before .before .before .before .before .before .before .before .before in
-    let B = now (s .args .book) in
     let a = taken (s .pre .0) in
-    let r = zero-parties (C B) 500 (a .counterparties) in
     let f = filled (s .pre .1) (c .before .before .before .before .before .before .before .before .before .before .before .before .before .before .before .before .before .fill .ensures) in
-    (s .pre .0, f .count, parties-of r f, record { before = replicate (500 + 1) 0; room = r .heads-size; stored = f .of-heads }, zero-lent B 500 900 1500 (a .counterparties) (a .assets) (a .mitigants), c .before .before .before .before .before .before .before .before .before .before .before .if1 .taken)
+    (prepared 500 900 1500 (s .pre .0) (a .counterparties) (a .assets) (a .mitigants) f, c .before .before .before .before .before .before .before .before .before .before .before .if1 .taken)
 
 many-requires : tie.Need-many-requires
 many-requires c κs =
     let s = c .before .before .before .before .before .before .before .before .before .before .before .before .before .before .before .before .before .before .before .before .before .before .before .before .before .before .before in
-    let B = now (s .args .book) in
     let a = taken (s .pre .0) in
-    let r = zero-parties (C B) 500 (a .counterparties) in
     let f = filled (s .pre .1) (c .before .before .before .before .before .before .before .before .before .before .before .before .before .before .before .before .before .fill .ensures) in
-    (s .pre .0, f .count, parties-of r f, record { before = replicate (500 + 1) 0; room = r .heads-size; stored = f .of-heads }, zero-lent B 500 900 1500 (a .counterparties) (a .assets) (a .mitigants))
+    prepared 500 900 1500 (s .pre .0) (a .counterparties) (a .assets) (a .mitigants) f
 
 pub large-spec : {M : Type 1} → statement M
 large-spec =

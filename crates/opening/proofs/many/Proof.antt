@@ -10,9 +10,9 @@ use Rattle.opening.proofs.many.Tie as tie
 answer-requires : tie.Need-answer-requires
 answer-requires c κs =
     let s = c .before .before .before .before .before .before .before .before .before .before .before .before .before .before .before .before .before .before .before .before .before .before .before .before in
-    let few = groups-le (now (s .args .book)) (s .pre .1) in
-    let a = taken (s .pre .0) in
-    (s .pre .0, s .pre .1, s .pre .2, s .pre .3, s .pre .4, zero-cells _ 500 (omega (arith, a .counterparties)), zero-room _ 500 (omega (arith, a .counterparties)))
+    let few = groups-le (now (s .args .book)) (s .pre .provided .count) in
+    let a = taken (s .pre .passed) in
+    (s .pre, zero-cells _ 500 (omega (arith, a .counterparties)), zero-room _ 500 (omega (arith, a .counterparties)))
 
 pub many-spec : {M : Type 1} → statement M
 many-spec =

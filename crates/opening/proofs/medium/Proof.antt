@@ -2,11 +2,8 @@
 use native.Mathlib.Omega.{arith}
 use denote.Ref.{now}
 use Rattle.fund.proofs.Limits.{taken}
-use Prim.Native.Nat.{_+_, _*_}
-use lib.ListN.{replicate}
-use Rattle.book.specs.Records.{C}
-use Rattle.parties.specs.RowLaws.{parties-of}
-use Rattle.opening.proofs.Zeros.{zero-parties, zero-lent, zero-cells, zero-room, groups-le, filled}
+use Prim.Native.Nat.{_*_}
+use Rattle.opening.proofs.Zeros.{zero-parties, zero-cells, zero-room, groups-le, filled, prepared}
 use borrow.Author.Needs.{needs}
 use Rattle.opening.proofs.medium.Statement.{statement}
 use Rattle.opening.proofs.medium.Tie as tie
@@ -21,10 +18,9 @@ answer-requires c κs =
     let B = now (s .args .book) in
     let w = s .pre .2 in
     let q = c .before .before .before .before .before .before .before .before .before .before .before .before .before .before .before .before .before .before .before .fill .ensures in
-    let r = zero-parties (C B) 128 (w .counterparties) in
     let f = filled (s .pre .1) q in
     let few = groups-le B (f .count) in
-    (s .pre .0, f .count, parties-of r f, record { before = replicate (128 + 1) 0; room = r .heads-size; stored = f .of-heads }, zero-lent B 128 (4 * 128) (4 * 128) (w .counterparties) (w .assets) (w .mitigants), zero-cells _ 128 (omega (arith, w .counterparties)), zero-room _ 128 (omega (arith, w .counterparties)))
+    (prepared 128 (4 * 128) (4 * 128) (s .pre .0) (w .counterparties) (w .assets) (w .mitigants) f, zero-cells _ 128 (omega (arith, w .counterparties)), zero-room _ 128 (omega (arith, w .counterparties)))
 
 pub medium-spec : {M : Type 1} → statement M
 medium-spec =
