@@ -8,7 +8,7 @@ use Prim.Native.Nat.{ℕ, _*_, min}
 use Rattle.words.specs.Words.{sumOf, countFrom}
 use Rattle.rows.specs.Rows.{columns}
 use Rattle.columns.specs.Column.{a3Tiers, a3Column}
-use Rattle.cells.specs.Cells.{rowAt}
+use Rattle.cells.specs.Cells.{cellsFrom}
 
 -- "exposures to counterparties not of kind 4 count together, tier by tier, up to the tier's unreduced limit", "in tiers 1 and 3 to 6"
 unfoldable pub a3Part : (ℕ → ℕ) → (ℕ → ℕ) → ℕ
@@ -19,4 +19,4 @@ unfoldable pub a3SumOf : ℕ → (ℕ → ℕ → ℕ) → (ℕ → ℕ) → ℕ
 a3SumOf places e L = sumOf (λ g. a3Part (e g) L) (countFrom 1 places)
 
 unfoldable pub a3At : List ℕ → ℕ → ℕ → ℕ
-a3At cells k t = rowAt cells (columns * k) (a3Column false t)
+a3At cells k t = cellsFrom cells (columns * k) (a3Column false t)

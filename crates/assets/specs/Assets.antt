@@ -1,7 +1,7 @@
 -- What the pass over the assets starts from and leaves.
 --   restCell   the cell of an asset's remainder
 --   FundSums   the sums of a book
---   Lent       tables that are long enough
+--   AssetRoom  tables that are long enough
 --   Valued     the tables by place, and the sums
 use mathlib.Core.List.{List}
 use mathlib.Core.Path.{_≡_}
@@ -34,7 +34,7 @@ pub record FundSums (b : List ℕ) (v : Values) : Type 0 where
   pub stressed : v .stressed ≡ stressedLessNetted (bookOf b)
 
 -- an asset behind the last mitigant is marked at K + 1; nets are added up from 0
-pub record Lent (b starts draws halves rests cells : List ℕ) : Type 0 where
+pub record AssetRoom (b starts draws halves rests cells : List ℕ) : Type 0 where
   pub of-starts : K b + 1 < length starts
   pub of-draws : N b < length draws
   pub of-halves : C b < length halves

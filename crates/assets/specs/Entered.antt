@@ -15,7 +15,7 @@ use Rattle.columns.specs.Column.{digit, ageOf}
 use Rattle.assets.specs.declared.Values.{Values}
 use Rattle.assets.specs.declared.Share.{Share}
 use Rattle.assets.specs.Shares.{restOf}
-use Rattle.assets.specs.Halves.{plus}
+use Rattle.assets.specs.Halves.{withNet}
 
 unfoldable pub columnIn : Asset → ℕ → ℕ → ℕ
 columnIn a word terms = if reinsurance a then digit (ageOf (a .entry) (a .months)) terms else digit (a .kind - 1) word
@@ -101,7 +101,7 @@ pub record Enters (a : Asset) (place row : ℕ) (v : Values) (draws halves rests
 
 pub record Entered (a : Asset) (place row word terms : ℕ) (v : Values) (draws₀ halves₀ rests₀ cells₀ draws halves rests cells : List ℕ) (r : Values) : Type 0 where
   pub of-draw : draws ≡ set draws₀ place (drawnIn a terms)
-  pub of-half : halves ≡ plus halves₀ a
+  pub of-half : halves ≡ withNet halves₀ a
   pub of-rest : rests ≡ set rests₀ place (restOf a)
   pub of-cell : cells ≡ set cells₀ place (row + columnIn a word terms)
   pub sums : r ≡ with-asset v a

@@ -1,5 +1,5 @@
 -- The table of halves, by counterparty (C-18): the nets of its treaties added up, then every entry halved.
---   plus added     a table with one asset's net more, and with those of some assets
+--   withNet added     a table with one asset's net more, and with those of some assets
 --   Halved         a table with every entry halved
 --   added-length added-at    laws: as long as it was; each entry with "the sum of that counterparty's unlinked reinsurance nets" more
 --   halves-are     out of zeros, each counterparty's half
@@ -22,13 +22,13 @@ use Rattle.exposure.specs.Values.{net}
 use Rattle.exposure.specs.Parts.{treatyNet, halfOf}
 use Rattle.assets.specs.Shares.{restOf, treatyRest}
 
-abbrev pub plus : List ℕ → Asset → List ℕ
-plus t a = set t (a .counterparty) (getD t (a .counterparty) 0 + treatyRest a)
+abbrev pub withNet : List ℕ → Asset → List ℕ
+withNet t a = set t (a .counterparty) (getD t (a .counterparty) 0 + treatyRest a)
 
 -- of `more` assets from a place on
 unfoldable pub added : List ℕ → List ℕ → ℕ → ℕ → List ℕ
 added b t place zero = t
-added b t place (suc more) = added b (plus t (assetAt b place)) (place + 1) more
+added b t place (suc more) = added b (withNet t (assetAt b place)) (place + 1) more
 
 pub record Halved (before after : List ℕ) : Type 0 where
   pub size : length after ≡ length before
@@ -39,7 +39,7 @@ pub record Halved (before after : List ℕ) : Type 0 where
 pub added-length : (b : List ℕ) (more place : ℕ) (t : List ℕ) → length (added b t place more) ≡ length t
 unfolding added
 added-length b zero place t = refl
-added-length b (suc more) place t = added-length b more (place + 1) (plus t (assetAt b place)) ∙ length-set t (assetAt b place .counterparty) _
+added-length b (suc more) place t = added-length b more (place + 1) (withNet t (assetAt b place)) ∙ length-set t (assetAt b place .counterparty) _
 
 -- what an asset adds at a place: its own counterparty's entry gets it
 net-at : (a : Asset) (q : ℕ) → (if a .counterparty =? q then treatyRest a else 0) ≡ treatyNet q a
@@ -54,10 +54,10 @@ net-at a q = by (a .counterparty =? q) (reinsurance a) (linked a)
     by false true false = refl
     by false false l = refl
 
-pub plus-at : (t : List ℕ) (a : Asset) → a .counterparty < length t → (q : ℕ) → getD (plus t a) q 0 ≡ getD t q 0 + treatyNet q a
+pub plus-at : (t : List ℕ) (a : Asset) → a .counterparty < length t → (q : ℕ) → getD (withNet t a) q 0 ≡ getD t q 0 + treatyNet q a
 plus-at t a l q = by (eqb (a .counterparty) q) refl ∙ ap (λ (n : ℕ). getD t q 0 + n) (net-at a q)
   where
-    by : (s : Bool) → eqb (a .counterparty) q ≡ s → getD (plus t a) q 0 ≡ getD t q 0 + (if s then treatyRest a else 0)
+    by : (s : Bool) → eqb (a .counterparty) q ≡ s → getD (withNet t a) q 0 ≡ getD t q 0 + (if s then treatyRest a else 0)
     by true z = rw (← eqb-true (a .counterparty) q z) (getD-set-same t (a .counterparty) (getD t (a .counterparty) 0 + treatyRest a) 0 l)
     by false z = getD-set-other t (a .counterparty) q (getD t (a .counterparty) 0 + treatyRest a) 0 (λ w. eqb-false (a .counterparty) q z (sym w)) ∙ omega arith
 
@@ -71,7 +71,7 @@ module _ (b : List ℕ) (acc : Accepted b) where
       omega (
         arith,
         plus-at t a (omega (arith, acc .asset place l (omega arith) .high)) q,
-        added-at more (place + 1) (first + a .count) (plus t a) (omega arith) (omega arith) (rw length-set g) q,
+        added-at more (place + 1) (first + a .count) (withNet t a) (omega arith) (omega arith) (rw length-set g) q,
       )
 
   pub halves-are : (t : List ℕ) {u : List ℕ} → C b < length t → ((q : ℕ) → _≡_ {A = ℕ} (getD t q 0) 0) → Halved (added b t 1 (N b)) u

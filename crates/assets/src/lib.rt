@@ -30,7 +30,7 @@ pub fn share_of(a: Asset, from: u64) -> Share
     requires { ⌜ (a .offsets ≤ M) × (a .deductions ≤ M) ⌝ }
     ensures { λ r. ⌜ Shared a from r ⌝ }
 {
-    let net = choice::less(from, a.offsets + a.deductions);
+    let net = choice::difference(from, a.offsets + a.deductions);
     let linked = book::is_linked(a);
     Share {
         net,
@@ -68,7 +68,7 @@ pub fn with_treaty(v: Values, a: Asset, s: Share, stressed: u64) -> Values
         linked: v.linked + s.linked,
         reinsurance: v.reinsurance + a.value,
         netted: v.netted + a.offsets,
-        stressed: v.stressed + choice::less(stressed, a.offsets),
+        stressed: v.stressed + choice::difference(stressed, a.offsets),
     }
 }
 
@@ -108,7 +108,7 @@ pub fn settle(
 pub fn treaty_draws(a: Asset, terms: u64) -> u16
     ensures { λ r. ⌜ r ≡ (if terms / 2 ^ 60 % 2 =? 1 then a .counterparty else 0) ⌝ }
 {
-    choice::short(columns::half_of(terms) == 1, a.counterparty, 0)
+    choice::number(columns::half_of(terms) == 1, a.counterparty, 0)
 }
 
 // Every entry of a table halved.

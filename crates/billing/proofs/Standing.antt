@@ -29,7 +29,7 @@ use Rattle.exposure.specs.Sums.{amountOf, exposureOf}
 use Rattle.columns.specs.ColumnLaws.{free-column}
 use Rattle.parties.specs.Rows.{topsTo, rowOf}
 use Rattle.parties.specs.RowLaws.{tops-le, lower}
-use Rattle.cells.specs.Cells.{rowAt}
+use Rattle.cells.specs.Cells.{cellsFrom}
 use Rattle.cells.specs.GroupSums.{rows-le}
 use Rattle.fund.specs.declared.Fund as made
 use Rattle.fund.specs.Figures.{limitsOf, order, fundOf}
@@ -42,8 +42,8 @@ module _ {schedule b : List ℕ} {groups : ℕ} {f : made.Fund} {cells : List �
   -- a row is at most all of them
   row-few : (k : ℕ) → k < groups → sum (byTier (row cells k)) tiers ≤ 900 * M
   row-few k l =
-      let own = sum-same (byTier (row cells k)) (rowAt cells (columns * k)) tiers (row-at cells k) in
-      omega (arith, own, sum-within (λ k. sum (rowAt cells (columns * k)) tiers) k groups l, rows-le acc (x .posted) eg)
+      let own = sum-same (byTier (row cells k)) (cellsFrom cells (columns * k)) tiers (row-at cells k) in
+      omega (arith, own, sum-within (λ k. sum (cellsFrom cells (columns * k)) tiers) k groups l, rows-le acc (x .posted) eg)
 
   pub standable : Groups cells groups (f .ranking)
   standable = record {

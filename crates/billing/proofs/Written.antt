@@ -20,7 +20,7 @@ use Rattle.figures.specs.Read.{readExcess}
 use Rattle.figures.specs.LeastCuts.{TierOf}
 use Rattle.figures.proofs.Least.{excess-read}
 use Rattle.bills.specs.Lines.{ExposureLine, amountIn, standsIn, excessLines}
-use Rattle.bills.specs.Bills.{deskCount, mostRate, billsSize, a3Excess, deskExcess, costOf, billBytes}
+use Rattle.bills.specs.Bills.{deskCount, mostCostRate, billsSize, a3Excess, deskExcess, costOf, billBytes}
 use Rattle.bills.specs.Tables.{LinesOf, byDesk, mostExcess, desksAfter}
 use Rattle.bills.proofs.Totals.{line-excess, desks-charge}
 use Rattle.bills.proofs.Running.{bills-length, read-bills, bills-same}
@@ -31,7 +31,7 @@ use Rattle.book.specs.Book.{bookOf}
 use Rattle.book.specs.Accepted.{Accepted}
 use Rattle.exposure.specs.declared.Exposure.{Exposure}
 use Rattle.exposure.specs.Values.{fundCheck}
-use Rattle.cells.specs.CellLaws.{Inside}
+use Rattle.cells.specs.CellLaws.{ExposureInside}
 use Rattle.parties.specs.Rows.{topsTo}
 use Rattle.covering.specs.ByPlace.{PartedBook}
 use Rattle.fund.specs.declared.Fund as made
@@ -41,12 +41,12 @@ use Rattle.fund.specs.Figures.{fundOf}
 use Rattle.fund.proofs.Limits.{taken}
 use Rattle.report.specs.Answer.{fundIn, reportOf}
 use Rattle.report.proofs.Written.{report-charge}
-use Rattle.desks.specs.BookLines.{lineOf}
+use Rattle.desks.specs.BookLines.{exposureLine}
 use Rattle.standing.specs.Standing.{Stood}
 use Rattle.desks.specs.Pass.{lineCell, linesAt, Lined, Served}
 use Rattle.desks.specs.LineLaws.{InBook, line-in, line-small, cells-apart, all-lines}
 use Rattle.desks.proofs.BookLaws.{lines-excess, desk-few, book-lines}
-use Rattle.billing.specs.Billed.{linesOf, excessIn, billsOf, AddUp, Billed}
+use Rattle.billing.specs.Billed.{exposureLinesIn, excessIn, billsOf, AddUp, Billed}
 use Rattle.billing.specs.Tables.{Excesses}
 use Rattle.billing.proofs.Bounds.{charge-few}
 use Rattle.billing.proofs.Standing.{stands-at}
@@ -59,20 +59,20 @@ at-zeros (suc n) zero = refl
 at-zeros (suc n) (suc q) = at-zeros n q
 
 -- a line's desk is the asset's
-line-desk : (cs : ℕ → Counterparty) (desk n : ℕ) (x : Exposure) → desk < n → lineOf cs desk x .desk < n
-unfolding lineOf
+line-desk : (cs : ℕ → Counterparty) (desk n : ℕ) (x : Exposure) → desk < n → exposureLine cs desk x .desk < n
+unfolding exposureLine
 line-desk cs desk n x l = l
 
 module _ (schedule b : List ℕ) (acc : Accepted b) (byte : (k : ℕ) → getD b k 0 < 256) where
   -- ---- the definitions add up
 
-  lines-are : LinesOf (fundIn schedule b) (linesOf b)
+  lines-are : LinesOf (fundIn schedule b) (exposureLinesIn b)
   unfolding fundIn fundOf bookOf
   lines-are = book-lines b acc byte (fundIn schedule b) refl refl (λ g t. refl)
 
   sum-is : sum (excessIn schedule b) deskCount ≡ charge (fundIn schedule b)
   unfolding excessIn
-  sum-is = desks-charge (fundIn schedule b) (linesOf b) lines-are
+  sum-is = desks-charge (fundIn schedule b) (exposureLinesIn b) lines-are
 
   sum-few : sum (excessIn schedule b) deskCount ≤ mostExcess
   sum-few = omega (arith, sum-is, charge-few schedule b acc)
@@ -80,9 +80,9 @@ module _ (schedule b : List ℕ) (acc : Accepted b) (byte : (k : ℕ) → getD b
   desk-most : (d : ℕ) → d < deskCount → excessIn schedule b d ≤ mostExcess
   desk-most d l = omega (arith, sum-within (excessIn schedule b) d deskCount l, sum-few)
 
-  tier-is : (g t : ℕ) → TierOf (fundIn schedule b) g t → amountIn g t (excessLines (standsIn (fundIn schedule b)) (linesOf b)) ≡ readExcess (reportOf schedule b) g t
+  tier-is : (g t : ℕ) → TierOf (fundIn schedule b) g t → amountIn g t (excessLines (standsIn (fundIn schedule b)) (exposureLinesIn b)) ≡ readExcess (reportOf schedule b) g t
   unfolding reportOf
-  tier-is g t h = line-excess (fundIn schedule b) (linesOf b) lines-are g t (h .tier) ∙ rw append-nil at (excess-read (fundIn schedule b) [] g t h)
+  tier-is g t h = line-excess (fundIn schedule b) (exposureLinesIn b) lines-are g t (h .tier) ∙ rw append-nil at (excess-read (fundIn schedule b) [] g t h)
 
   add-up : (rate : ℕ) (more : List ℕ) → AddUp schedule b rate (billsOf schedule b rate ++ more)
   unfolding billsOf costOf
@@ -118,7 +118,7 @@ module _ (schedule b : List ℕ) (acc : Accepted b) (byte : (k : ℕ) → getD b
     at-desks : All (λ y. y .desk < length desks) xs
     at-desks = all-lines b acc covered rests (λ y. y .desk < length desks) known
       where
-        known : (place : ℕ) (x : Exposure) → Inside b x → lineOf (counterpartyAt b) (assetAt b place .desk) x .desk < length desks
+        known : (place : ℕ) (x : Exposure) → ExposureInside b x → exposureLine (counterpartyAt b) (assetAt b place .desk) x .desk < length desks
         known place x i = line-desk (counterpartyAt b) (assetAt b place .desk) (length desks) x (omega (arith, desks-long, desk-few b acc byte place))
 
     all-is : (d : ℕ) → byDesk (desksAfter (lineCell b) xs stood desks) d ≡ excessIn schedule b d
@@ -143,7 +143,7 @@ module _ (schedule b : List ℕ) (acc : Accepted b) (byte : (k : ℕ) → getD b
     pub desks-few : sum (byDesk desks) deskCount ≤ mostExcess
     desks-few = omega (arith, sum-same (byDesk desks) (excessIn schedule b) deskCount (x .each), sum-few)
 
-    pub billed : (rate : ℕ) (before : List ℕ) {after : List ℕ} → Passed schedule b → fundCheck (bookOf b) ≡ Fine → rate ≤ mostRate → billsSize ≤ length before
+    pub billed : (rate : ℕ) (before : List ℕ) {after : List ℕ} → Passed schedule b → fundCheck (bookOf b) ≡ Fine → rate ≤ mostCostRate → billsSize ≤ length before
         → after ≡ placed before 0 (billBytes (byDesk desks) rate) → Billed schedule b rate before after (Written billsSize)
     unfolding billsOf
     billed rate before {after} p q h l put =

@@ -1,5 +1,5 @@
 -- C-14: the answer to a schedule, a book, a rate and a lent buffer, and what stands in the buffer afterwards.
---   linesOf excessIn       the exposure lines of a book, and the excess of a desk
+--   exposureLinesIn excessIn   the exposure lines of a book, and the excess of a desk
 --   billsOf                the bills' bytes
 --   billCheck billAnswer   the checks 1 to 17, 19 and 16; the bills' length, or a refusal
 --   billIn AddUp           a bill as it is read; that bills, desks and lines add up
@@ -18,7 +18,7 @@ use Rattle.refusal.specs.Chain.{refuse_unless_, _andThen_, answerBy}
 use Rattle.figures.specs.Read.{chargeIn, readExcess}
 use Rattle.figures.specs.LeastCuts.{TierOf}
 use Rattle.bills.specs.Lines.{ExposureLine, amountIn, standsIn, excessLines}
-use Rattle.bills.specs.Bills.{deskCount, mostRate, billsSize, deskExcess, billBytes}
+use Rattle.bills.specs.Bills.{deskCount, mostCostRate, billsSize, deskExcess, billBytes}
 use Rattle.schedule.specs.Check.{scheduleCheck}
 use Rattle.book.specs.Book.{bookOf}
 use Rattle.book.specs.Check.{bookCheck}
@@ -27,12 +27,12 @@ use Rattle.report.specs.Answer.{fundIn, reportOf, writtenBy}
 use Rattle.desks.specs.BookLines.{bookLines}
 
 -- the exposure lines of a book's bytes, in book order
-abbrev pub linesOf : List ℕ → List ExposureLine
-linesOf book = bookLines (bookOf book)
+abbrev pub exposureLinesIn : List ℕ → List ExposureLine
+exposureLinesIn book = bookLines (bookOf book)
 
 -- the excess of desk d, the A3 excess with desk 0
 unfoldable pub excessIn : List ℕ → List ℕ → ℕ → ℕ
-excessIn schedule book d = deskExcess (fundIn schedule book) (linesOf book) d
+excessIn schedule book d = deskExcess (fundIn schedule book) (exposureLinesIn book) d
 
 -- "256 amounts of eight bytes", at a rate in ten-thousandths
 unfoldable pub billsOf : List ℕ → List ℕ → ℕ → List ℕ
@@ -44,7 +44,7 @@ billCheck schedule book rate buffer =
     scheduleCheck schedule
     andThen bookCheck book
     andThen fundCheck (bookOf book)
-    andThen (refuse CostRate unless rate ≤? mostRate)
+    andThen (refuse CostRate unless rate ≤? mostCostRate)
     andThen (refuse BufferShort unless billsSize ≤? buffer)
 
 -- the answer to a buffer of so many bytes
@@ -62,7 +62,7 @@ billIn R d = u64At R (8 * d)
 pub record AddUp (schedule book : List ℕ) (rate : ℕ) (R : List ℕ) : Type 0 where
   pub bills : sum (billIn R) deskCount ≡ chargeIn (reportOf schedule book) * rate / 10000
   pub desks : sum (excessIn schedule book) deskCount ≡ chargeIn (reportOf schedule book)
-  pub tiers : (g t : ℕ) → TierOf (fundIn schedule book) g t → amountIn g t (excessLines (standsIn (fundIn schedule book)) (linesOf book)) ≡ readExcess (reportOf schedule book) g t
+  pub tiers : (g t : ℕ) → TierOf (fundIn schedule book) g t → amountIn g t (excessLines (standsIn (fundIn schedule book)) (exposureLinesIn book)) ≡ readExcess (reportOf schedule book) g t
 
 -- where there are bills
 abbrev pub AddUpBy : Answer → List ℕ → List ℕ → ℕ → List ℕ → Type 0

@@ -33,7 +33,7 @@ fn excesses(
     let n = h.assets as usize;
     let first = header::assets_of(book);
     let behind = header::mitigants_start(h);
-    desks[0] = choice::less(figures.a3_sum, figures.a3_limit);
+    desks[0] = choice::difference(figures.a3_sum, figures.a3_limit);
     standing::stand(cells, groups, limits, ranking);
     serving::serve(
         book,

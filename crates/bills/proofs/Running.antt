@@ -14,7 +14,7 @@ use Rattle.words.specs.Ranges.{sum-next, sum-within}
 use Rattle.wire.specs.Bytes.{u64At, placed}
 use Rattle.wire.specs.Amounts.{amountsBytes, amounts-length}
 use Rattle.wire.proofs.Amounts.{amounts-in}
-use Rattle.bills.specs.Bills.{deskCount, mostRate, billsSize, costOf, billOf, billBytes}
+use Rattle.bills.specs.Bills.{deskCount, mostCostRate, billsSize, costOf, billOf, billBytes}
 use Rattle.bills.specs.Tables.{mostExcess}
 use Rattle.bills.proofs.Totals.{cost-rises, bills-sum}
 
@@ -74,7 +74,7 @@ module _ (x : ℕ → ℕ) (rate : ℕ) where
           rw p at (amounts-in bills [] more 0 d refl (omega (arith, bills-long))) ∙ bill-at d l
 
 -- 18,000,000,000,000,000 × 1,000 is below 2^64
-pub product-fits : (r rate : ℕ) → r ≤ mostExcess → rate ≤ mostRate → r * rate < 2 ^ 64
+pub product-fits : (r rate : ℕ) → r ≤ mostExcess → rate ≤ mostCostRate → r * rate < 2 ^ 64
 product-fits r rate h k = omega (arith, mul-le-mul-left {m = rate} {n = 1000} r k)
 
 module _ (x y : ℕ → ℕ) (rate : ℕ) (h : (d : ℕ) → d < deskCount → x d ≡ y d) where

@@ -14,7 +14,7 @@ use Rattle.figures.specs.Fund.{Fund, overGroups}
 use Rattle.figures.specs.Report.{excessOf, excessSumOf, groupExcess, charge}
 use Rattle.bills.specs.Lines.{ExposureLine, isIn, amountIn, tierExcess, standsIn, excessLines}
 use Rattle.bills.specs.Bills.{deskCount, amountOfDesk, a3Excess, deskExcess, costOf, billOf}
-use Rattle.bills.specs.Tables.{Inside, LinesOf}
+use Rattle.bills.specs.Tables.{LineInside, LinesOf}
 use Rattle.bills.proofs.Sums.{twice}
 use Rattle.bills.proofs.Served.{all-excess, tier-excess}
 
@@ -23,7 +23,7 @@ amount x = x .amount
 
 -- ---- one list of lines, summed by desk and by group and tier
 
-module _ (F : Fund) (xs : List ExposureLine) (h : All (Inside F) xs) where
+module _ (F : Fund) (xs : List ExposureLine) (h : All (LineInside F) xs) where
   by-desk : sum (λ d. amountOfDesk d xs) deskCount ≡ sumOf amount xs
   unfolding amountOfDesk
   by-desk =
@@ -45,8 +45,8 @@ module _ (F : Fund) (xs : List ExposureLine) (b : LinesOf F xs) where
   abbrev ys : List ExposureLine
   ys = excessLines (standsIn F) xs
 
-  inside : All (Inside F) ys
-  inside = all-excess (Inside F) (λ x a i. i) (standsIn F) xs (b .inside)
+  inside : All (LineInside F) ys
+  inside = all-excess (LineInside F) (λ x a i. i) (standsIn F) xs (b .inside)
 
   -- "what has no limit" has no excess
   pub line-excess : (g t : ℕ) → t < F .tiers → amountIn g t (excessLines (standsIn F) xs) ≡ excessOf F g t

@@ -1,5 +1,5 @@
 -- C-14, "Capital cost per desk": what each desk is billed. xs are the exposure lines of the fund F in book order, x is the excess of each desk.
---   deskCount mostRate billsSize   how many desks there are, the greatest rate, the bills' length
+--   deskCount mostCostRate billsSize   how many desks there are, the greatest rate, the bills' length
 --   amountOfDesk deskExcess        the amounts of a desk's lines; the excess of a desk
 --   costOf billOf                  the cost of the running excess; what a desk is billed
 --   billBytes                      all bills as bytes
@@ -15,8 +15,8 @@ abbrev pub deskCount : ℕ
 deskCount = 256
 
 -- "up to 1,000"
-abbrev pub mostRate : ℕ
-mostRate = 1000
+abbrev pub mostCostRate : ℕ
+mostCostRate = 1000
 
 -- "256 amounts of eight bytes"
 abbrev pub billsSize : ℕ

@@ -1,5 +1,5 @@
 -- What lines are those of a fund; the tables that lines are served in, and what the functions ask for and promise of them.
---   Inside LinesOf          a line of a fund; all of its lines
+--   LineInside LinesOf          a line of a fund; all of its lines
 --   byDesk mostExcess       the entry of a table at a desk; what the desks' excesses add up to at the most
 --   stillAfter desksAfter   what is still to be given behind lines, and what the desks have
 --   LineServed              one line
@@ -14,12 +14,12 @@ use Rattle.bills.specs.Lines.{ExposureLine, amountIn}
 use Rattle.bills.specs.Bills.{deskCount}
 
 -- a line has a group of the fund, a tier or no limit, and a desk
-abbrev pub Inside : Fund → ExposureLine → Type 0
-Inside F x = (1 ≤ x .group) × (x .group ≤ F .groups) × (x .tier ≤ F .tiers) × (x .desk < deskCount)
+abbrev pub LineInside : Fund → ExposureLine → Type 0
+LineInside F x = (1 ≤ x .group) × (x .group ≤ F .groups) × (x .tier ≤ F .tiers) × (x .desk < deskCount)
 
 -- "A group's exposure in a tier is all that its counterparties have there in covered parts and remainders"
 pub record LinesOf (F : Fund) (xs : List ExposureLine) : Type 0 where
-  pub inside : All (Inside F) xs
+  pub inside : All (LineInside F) xs
   pub amounts : (g t : ℕ) → amountIn g t xs ≡ F .exposure g t
 
 abbrev pub byDesk : List ℕ → ℕ → ℕ

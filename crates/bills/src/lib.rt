@@ -4,7 +4,7 @@ ghost use Prim.Native.Nat.{_+_, _-_, _≤_, _<_, _^_};
 ghost use lib.ListN.{length, getD};
 ghost use Rattle.words.specs.Words.{sum};
 ghost use Rattle.wire.specs.Bytes.{placed};
-ghost use Rattle.bills.specs.Bills.{deskCount, mostRate, billsSize, billBytes};
+ghost use Rattle.bills.specs.Bills.{deskCount, mostCostRate, billsSize, billBytes};
 ghost use Rattle.bills.specs.Tables.{byDesk, mostExcess, LineServed};
 
 // How many desks there are.
@@ -24,13 +24,13 @@ pub fn serve(still: &mut [u64], desks: &mut [u64], cell: usize, amount: u64, des
     ensures { λ _. ⌜ LineServed cell amount desk (now (still .entry)) (now (still .exit)) (now (desks .entry)) (now (desks .exit)) ⌝ }
 {
     let left = still[cell];
-    still[cell] = choice::less(left, amount);
-    desks[desk] += choice::less(amount, left);
+    still[cell] = choice::difference(left, amount);
+    desks[desk] += choice::difference(amount, left);
 }
 
 // Each desk's bill, desk by desk from 0: the cost of the running excess, less that cost before the desk. No byte behind them changes.
 pub fn put(excesses: &[u64], rate: u64, bills: &mut [u8])
-    requires { ⌜ (deskCount ≤ length (now excesses)) × (sum (byDesk (now excesses)) deskCount ≤ mostExcess) × (rate ≤ mostRate) × (billsSize ≤ length (now bills)) ⌝ }
+    requires { ⌜ (deskCount ≤ length (now excesses)) × (sum (byDesk (now excesses)) deskCount ≤ mostExcess) × (rate ≤ mostCostRate) × (billsSize ≤ length (now bills)) ⌝ }
     ensures { λ _. ⌜ now (bills .exit) ≡ placed (now (bills .entry)) 0 (billBytes (byDesk (now (excesses .entry))) rate) ⌝ }
 {
     let mut running: u64 = 0;

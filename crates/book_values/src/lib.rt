@@ -20,7 +20,7 @@ pub fn check_book(b: &[u8]) -> Checked
     while place <= n {
         let a = book::asset_at(b, assets, place);
         let treaty = book::is_reinsurance(a);
-        let above = choice::less(exposure::stressed_of(a), a.offsets);
+        let above = choice::difference(exposure::stressed_of(a), a.offsets);
         values += choice::amount(treaty, a.value, 0);
         stressed += choice::amount(treaty, above, 0);
         place += 1;

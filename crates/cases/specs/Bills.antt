@@ -12,8 +12,8 @@ use Rattle.figures.specs.Read.{lineAt, linesIn, chargeIn}
 use Rattle.bills.specs.Lines.{ExposureLine, amountIn, tierExcess, standsIn, excessLines}
 use Rattle.bills.specs.Bills.{deskCount, billsSize, amountOfDesk, deskExcess, costOf, billOf, billBytes}
 use Rattle.report.specs.Answer.{fundIn, reportOf, writtenBy}
-use Rattle.desks.specs.BookLines.{lineOf, holdingLines, bookLines}
-use Rattle.billing.specs.Billed.{linesOf, excessIn, billsOf, billCheck, billAnswer}
+use Rattle.desks.specs.BookLines.{exposureLine, holdingLines, bookLines}
+use Rattle.billing.specs.Billed.{exposureLinesIn, excessIn, billsOf, billCheck, billAnswer}
 use Rattle.examples.specs.Build.{plain, usual, name, gradedName, bank}
 use Rattle.examples.specs.Reading.{amountsIn}
 use Rattle.examples.specs.Table.{publishedBytes, same, accepted, turned}
@@ -21,7 +21,7 @@ use Rattle.examples.specs.Opened.{reportComputed}
 
 -- the bills, with every definition on the way opened: a proof that says `unfolding billsComputed` computes them
 unfoldable billsComputed : List ℕ → List ℕ → ℕ → List ℕ
-unfolding reportComputed amountsBytes amountIn tierExcess standsIn excessLines amountOfDesk deskExcess costOf billOf billBytes lineOf holdingLines bookLines excessIn billsOf billCheck billAnswer
+unfolding reportComputed amountsBytes amountIn tierExcess standsIn excessLines amountOfDesk deskExcess costOf billOf billBytes exposureLine holdingLines bookLines excessIn billsOf billCheck billAnswer
 billsComputed schedule book rate = billsOf schedule book rate
 
 -- ---- what a case says
@@ -40,7 +40,7 @@ total xs = sumOf (λ x. x) xs
 unfoldable owed : List ℕ → List ℕ → List ℕ → Bool
 owed book lines desks =
     let r = reportOf publishedBytes book in
-    let xs = excessLines (standsIn (fundIn publishedBytes book)) (linesOf book) in
+    let xs = excessLines (standsIn (fundIn publishedBytes book)) (exposureLinesIn book) in
     let ds = map (excessIn publishedBytes book) (countFrom 0 deskCount) in
     same (map (λ (x : ExposureLine). x .amount) xs) lines
     && same ds desks

@@ -13,7 +13,7 @@ use Rattle.cascade.specs.Cascade.{tiers}
 use Rattle.rows.specs.Rows.{columns, noLimitColumn, billColumn, a3Columns}
 use Rattle.columns.specs.Column.{a3Column, columnBy}
 use Rattle.words.specs.Ranges.{sum-next, sum-within}
-use Rattle.cells.specs.Cells.{apart, folded, rowAt, columnSum, FoldedRow, FoldFits, FoldedRows, Folded}
+use Rattle.cells.specs.Cells.{apart, folded, cellsFrom, columnSum, FoldedRow, FoldFits, FoldedRows, Folded}
 
 -- ---- one row
 
@@ -24,24 +24,24 @@ onto to from row c = if c =? to then row to + row from else row c
 -- the row at `at` of a table that was t₀ is `row`, and nothing else has changed
 pub record Row (at : ℕ) (t₀ t : List ℕ) (row : ℕ → ℕ) : Type 0 where
   pub size : length t ≡ length t₀
-  pub each : (c : ℕ) → rowAt t at c ≡ row c
+  pub each : (c : ℕ) → cellsFrom t at c ≡ row c
   pub before : (q : ℕ) → q < at → getD t q 0 ≡ getD t₀ q 0
   pub behind : (q : ℕ) → at + tiers ≤ q → getD t q 0 ≡ getD t₀ q 0
 
-pub row-start : (at : ℕ) (t : List ℕ) → Row at t t (rowAt t at)
+pub row-start : (at : ℕ) (t : List ℕ) → Row at t t (cellsFrom t at)
 row-start at t = record { size = refl; each = λ c. refl; before = λ q _. refl; behind = λ q _. refl }
 
 module _ {at : ℕ} {t₀ t : List ℕ} {row : ℕ → ℕ} (w : Row at t₀ t row) (room : at + columns ≤ length t₀) (to from : ℕ) {i j : ℕ} (h : to < tiers) (g : from < columns) (ei : i ≡ at + to) (ej : j ≡ at + from) where
   pub row-fits : row to + row from < 2 ^ 64 → (i < length t) × (j < length t) × (getD t i 0 + getD t j 0 < 2 ^ 64)
   row-fits fit = (omega (arith, w .size), omega (arith, w .size), rw (ei, ej) (omega (arith, w .each to, w .each from)))
 
-  stored : (c : ℕ) → rowAt (set t (at + to) (rowAt t at to + rowAt t at from)) at c ≡ onto to from row c
+  stored : (c : ℕ) → cellsFrom (set t (at + to) (cellsFrom t at to + cellsFrom t at from)) at c ≡ onto to from row c
   stored c = by (eqb c to) refl
     where
       v : ℕ
-      v = rowAt t at to + rowAt t at from
+      v = cellsFrom t at to + cellsFrom t at from
 
-      by : (s : Bool) → eqb c to ≡ s → rowAt (set t (at + to) v) at c ≡ (if s then row to + row from else row c)
+      by : (s : Bool) → eqb c to ≡ s → cellsFrom (set t (at + to) v) at c ≡ (if s then row to + row from else row c)
       by true e = rw (eqb-true c to e) (getD-set-same t (at + to) v 0 (omega (arith, w .size)) ∙ ap₂ _+_ (w .each to) (w .each from))
       by false e = getD-set-other t (at + to) (at + c) v 0 (λ z. eqb-false c to e (omega arith)) ∙ w .each c
 
@@ -74,10 +74,10 @@ all-folded : (row : ℕ → ℕ) (t : ℕ) → t < tiers → all-onto row t ≡ 
 unfolding folded apart columnBy a3Column
 all-folded row = each-below tiers (λ t. all-onto row t ≡ folded row t) ((((((((((((((((tt, omega arith), omega arith), omega arith), omega arith), omega arith), omega arith), omega arith), omega arith), omega arith), omega arith), omega arith), omega arith), omega arith), omega arith), omega arith), omega arith)
 
-pub folded-row : {at : ℕ} {t₀ t : List ℕ} → Row at t₀ t (all-onto (rowAt t₀ at)) → FoldedRow at t₀ t
+pub folded-row : {at : ℕ} {t₀ t : List ℕ} → Row at t₀ t (all-onto (cellsFrom t₀ at)) → FoldedRow at t₀ t
 folded-row {at} {t₀} w = record {
   size = w .size;
-  tier = λ t h. w .each t ∙ all-folded (rowAt t₀ at) t h;
+  tier = λ t h. w .each t ∙ all-folded (cellsFrom t₀ at) t h;
   before = w .before;
   behind = w .behind;
 }
@@ -113,39 +113,39 @@ module _ {groups : ℕ} {cells₀ cells : List ℕ} {w free k : ℕ} (f : Foldin
 
   module _ (fits : FoldFits groups cells₀) (h : k < groups) where
     -- the row is still as it was
-    same : (c : ℕ) → rowAt cells (columns * k) c ≡ rowAt cells₀ (columns * k) c
+    same : (c : ℕ) → cellsFrom cells (columns * k) c ≡ cellsFrom cells₀ (columns * k) c
     same c = f .rows .behind (columns * k + c) (omega arith)
 
     pub fold-room : columns * k + columns ≤ length cells
     fold-room = omega (arith, fits .size, f .rows .size)
 
-    pub fold-fits : (t : ℕ) → t < tiers → folded (rowAt cells (columns * k)) t < 2 ^ 64
+    pub fold-fits : (t : ℕ) → t < tiers → folded (cellsFrom cells (columns * k)) t < 2 ^ 64
     unfolding folded
     fold-fits t l = rw (same t, same (apart t)) (fits .tier k t h l)
 
-    pub bills-fit : w + rowAt cells (columns * k) billColumn < 2 ^ 64
-    bills-fit = omega (arith, f .bills, same billColumn, fits .bills, sum-within (λ k. rowAt cells₀ (columns * k) billColumn) k groups h)
+    pub bills-fit : w + cellsFrom cells (columns * k) billColumn < 2 ^ 64
+    bills-fit = omega (arith, f .bills, same billColumn, fits .bills, sum-within (λ k. cellsFrom cells₀ (columns * k) billColumn) k groups h)
 
-    pub free-fits : free + rowAt cells (columns * k) noLimitColumn < 2 ^ 64
-    free-fits = omega (arith, f .frees, same noLimitColumn, fits .free, sum-within (λ k. rowAt cells₀ (columns * k) noLimitColumn) k groups h)
+    pub free-fits : free + cellsFrom cells (columns * k) noLimitColumn < 2 ^ 64
+    free-fits = omega (arith, f .frees, same noLimitColumn, fits .free, sum-within (λ k. cellsFrom cells₀ (columns * k) noLimitColumn) k groups h)
 
     module _ {cells₁ : List ℕ} (e : FoldedRow (columns * k) cells cells₁) where
-      next-tier : (j t : ℕ) → j < k + 1 → t < tiers → rowAt cells₁ (columns * j) t ≡ folded (rowAt cells₀ (columns * j)) t
+      next-tier : (j t : ℕ) → j < k + 1 → t < tiers → cellsFrom cells₁ (columns * j) t ≡ folded (cellsFrom cells₀ (columns * j)) t
       unfolding folded
       next-tier j t l g = by (eqb j k) refl
         where
-          by : (s : Bool) → eqb j k ≡ s → rowAt cells₁ (columns * j) t ≡ folded (rowAt cells₀ (columns * j)) t
+          by : (s : Bool) → eqb j k ≡ s → cellsFrom cells₁ (columns * j) t ≡ folded (cellsFrom cells₀ (columns * j)) t
           by true z = rw (eqb-true j k z) (e .tier t g ∙ rw (same t, same (apart t)))
           by false z = let n = eqb-false j k z in e .before (columns * j + t) (omega arith) ∙ f .rows .tier j t (omega arith) g
 
-      next-other : (j c : ℕ) → j < k + 1 → tiers ≤ c → c < columns → rowAt cells₁ (columns * j) c ≡ rowAt cells₀ (columns * j) c
+      next-other : (j c : ℕ) → j < k + 1 → tiers ≤ c → c < columns → cellsFrom cells₁ (columns * j) c ≡ cellsFrom cells₀ (columns * j) c
       next-other j c l g i = by (eqb j k) refl
         where
-          by : (s : Bool) → eqb j k ≡ s → rowAt cells₁ (columns * j) c ≡ rowAt cells₀ (columns * j) c
+          by : (s : Bool) → eqb j k ≡ s → cellsFrom cells₁ (columns * j) c ≡ cellsFrom cells₀ (columns * j) c
           by true z = rw (eqb-true j k z) (e .behind (columns * k + c) (omega arith) ∙ same c)
           by false z = let n = eqb-false j k z in e .before (columns * j + c) (omega arith) ∙ f .rows .other j c (omega arith) g i
 
-      pub folding-step : Folding groups cells₀ cells₁ (w + rowAt cells (columns * k) billColumn) (free + rowAt cells (columns * k) noLimitColumn) (k + 1)
+      pub folding-step : Folding groups cells₀ cells₁ (w + cellsFrom cells (columns * k) billColumn) (free + cellsFrom cells (columns * k) noLimitColumn) (k + 1)
       folding-step = record {
         within = omega arith;
         rows = record {
@@ -154,6 +154,6 @@ module _ {groups : ℕ} {cells₀ cells : List ℕ} {w free k : ℕ} (f : Foldin
           other = next-other;
           behind = λ q l. e .behind q (omega arith) ∙ f .rows .behind q (omega arith);
         };
-        bills = ap₂ _+_ (f .bills) (same billColumn) ∙ sum-next (λ k. rowAt cells₀ (columns * k) billColumn) k;
-        frees = ap₂ _+_ (f .frees) (same noLimitColumn) ∙ sum-next (λ k. rowAt cells₀ (columns * k) noLimitColumn) k;
+        bills = ap₂ _+_ (f .bills) (same billColumn) ∙ sum-next (λ k. cellsFrom cells₀ (columns * k) billColumn) k;
+        frees = ap₂ _+_ (f .frees) (same noLimitColumn) ∙ sum-next (λ k. cellsFrom cells₀ (columns * k) noLimitColumn) k;
       }

@@ -1,5 +1,5 @@
 -- Laws of cells.
---   Inside                        an exposure to a counterparty of the book
+--   ExposureInside                        an exposure to a counterparty of the book
 --   part-inside rest-inside       the exposures that the tables give are such
 --   rowed placed tabled           the tables that the passes before leave
 --   rest-cell                     what is left of an asset, whatever the amount, has the asset's cell
@@ -33,19 +33,19 @@ use Rattle.covering.specs.ByPlace.{partsAt, restsAt, parted, by-place}
 use Rattle.cells.specs.Cells.{columnAt, cellOf, Rowed, Placed, Tabled}
 use Rattle.assets.specs.Assets.{restCell}
 
-pub record Inside (b : List ℕ) (x : Exposure) : Type 0 where
+pub record ExposureInside (b : List ℕ) (x : Exposure) : Type 0 where
   pub low : 0 < x .counterparty
   pub high : x .counterparty ≤ C b
 
 module _ (b : List ℕ) (acc : Accepted b) where
-  pub part-inside : (t : List ℕ) (more place : ℕ) → 0 < place → place + more ≤ K b + 1 → All (Inside b) (partsAt b t place more)
+  pub part-inside : (t : List ℕ) (more place : ℕ) → 0 < place → place + more ≤ K b + 1 → All (ExposureInside b) (partsAt b t place more)
   unfolding partsAt coveredPart
   part-inside t zero place l h = tt
   part-inside t (suc more) place l h =
       let m = acc .mitigant place l (omega arith) in
       (record { low = m .low; high = m .high }, part-inside t more (place + 1) (omega arith) (omega arith))
 
-  pub rest-inside : (t : List ℕ) (more place : ℕ) → 0 < place → place + more ≤ N b + 1 → All (Inside b) (restsAt b t place more)
+  pub rest-inside : (t : List ℕ) (more place : ℕ) → 0 < place → place + more ≤ N b + 1 → All (ExposureInside b) (restsAt b t place more)
   unfolding restsAt remainder
   rest-inside t zero place l h = tt
   rest-inside t (suc more) place l h =
@@ -77,7 +77,7 @@ pub rest-cell : (b : List ℕ) (place amount : ℕ) → restCell b place ≡ cel
 unfolding restCell cellOf remainder columnOf tierBy lowerTier reinsuranceTier ungradedTier
 rest-cell b place amount = refl
 
-pub cell-small : (b : List ℕ) (x : Exposure) → Inside b x → cellOf b x < columns * topsTo b (C b)
+pub cell-small : (b : List ℕ) (x : Exposure) → ExposureInside b x → cellOf b x < columns * topsTo b (C b)
 unfolding cellOf
 cell-small b x i =
     omega (arith, row-small b (C b) (x .counterparty) (i .low) (i .high), column-le x (counterpartyAt b (x .counterparty)))
@@ -90,7 +90,7 @@ cell-parts j c k d h i = by (eqb j k) (eqb c d) refl refl
     by true false e f = ne-eqb (columns * j + c) (columns * k + d) (λ z. eqb-false c d f (omega (arith, eqb-true j k e)))
     by false q e f = ne-eqb (columns * j + c) (columns * k + d) (λ z. eqb-false j k e (omega arith))
 
-module _ (b : List ℕ) (x : Exposure) (i : Inside b x) (g : ℕ) (l : 0 < g) (alone : parentOf (counterpartyAt b) g ≡ 0) where
+module _ (b : List ℕ) (x : Exposure) (i : ExposureInside b x) (g : ℕ) (l : 0 < g) (alone : parentOf (counterpartyAt b) g ≡ 0) where
   abbrev top : ℕ
   top = topOf (counterpartyAt b) (x .counterparty)
 

@@ -1,5 +1,5 @@
 -- Sums of a book's exposures by cell, by column and by tier.
---   Entered entered             cells with every exposure added, and that the two passes leave such
+--   AllPosted entered             cells with every exposure added, and that the two passes leave such
 --   sum-inside amount-inside    sums that agree on the exposures to counterparties of the book
 --   apart-le                    a column apart is one of the row's
 --   entry-le                    no cell passes 900 × M
@@ -34,13 +34,13 @@ use Rattle.parties.specs.Rows.{topsTo, rowOf}
 use Rattle.parties.specs.RowLaws.{row-small}
 use Rattle.covering.specs.ByPlace.{partsAt, restsAt}
 use Rattle.covering.specs.Bounds.{all-le}
-use Rattle.cells.specs.Cells.{columnAt, cellOf, apart, folded, rowAt, columnSum, Tabled, Zeros}
+use Rattle.cells.specs.Cells.{columnAt, cellOf, apart, folded, cellsFrom, columnSum, Tabled, Zeros}
 use Rattle.words.specs.Ranges.{sum-here}
 use Rattle.cells.specs.Adding.{inCell, Adding, adding-end, gate-le, amount-le, sum-join}
-use Rattle.cells.specs.CellLaws.{Inside, part-inside, rest-inside, cell-parts, cell-group}
+use Rattle.cells.specs.CellLaws.{ExposureInside, part-inside, rest-inside, cell-parts, cell-group}
 
 -- every exposure of the book has been added to its cell
-pub record Entered (b cells : List ℕ) : Type 0 where
+pub record AllPosted (b cells : List ℕ) : Type 0 where
   pub each : (q : ℕ) → getD cells q 0 ≡ amountOf (inCell (cellOf b) q) (exposures (bookOf b))
 
 -- ---- tests
@@ -56,21 +56,21 @@ and-assoc false t u = refl
 -- ---- sums over the exposures of a book
 
 module _ {b covered rests : List ℕ} (acc : Accepted b) (t : Tabled b covered rests) where
-  pub sum-inside : (f g : Exposure → ℕ) → ((x : Exposure) → f x ≤ x .amount) → ((x : Exposure) → g x ≤ x .amount) → ((x : Exposure) → Inside b x → f x ≡ g x) → sumOf f (exposures (bookOf b)) ≡ sumOf g (exposures (bookOf b))
+  pub sum-inside : (f g : Exposure → ℕ) → ((x : Exposure) → f x ≤ x .amount) → ((x : Exposure) → g x ≤ x .amount) → ((x : Exposure) → ExposureInside b x → f x ≡ g x) → sumOf f (exposures (bookOf b)) ≡ sumOf g (exposures (bookOf b))
   sum-inside f g lf lg h =
       let parts = partsAt b covered 1 (K b) in
       let rests′ = restsAt b rests 1 (N b) in
-      let agree : (xs : List Exposure) → All (Inside b) xs → sumOf f xs ≡ sumOf g xs = λ xs i. sum-agree f g xs (all-map h xs i) in
+      let agree : (xs : List Exposure) → All (ExposureInside b) xs → sumOf f xs ≡ sumOf g xs = λ xs i. sum-agree f g xs (all-map h xs i) in
       t .sums f (λ x z. omega (arith, lf x))
       ∙ ap₂ _+_ (agree parts (part-inside b acc covered (K b) 1 (omega arith) (omega arith))) (agree rests′ (rest-inside b acc rests (N b) 1 (omega arith) (omega arith)))
       ∙ sym (t .sums g (λ x z. omega (arith, lg x)))
 
-  pub amount-inside : (p q : Exposure → Bool) → ((x : Exposure) → Inside b x → p x ≡ q x) → amountOf p (exposures (bookOf b)) ≡ amountOf q (exposures (bookOf b))
+  pub amount-inside : (p q : Exposure → Bool) → ((x : Exposure) → ExposureInside b x → p x ≡ q x) → amountOf p (exposures (bookOf b)) ≡ amountOf q (exposures (bookOf b))
   unfolding amountOf
   amount-inside p q h = sum-inside _ _ (gate-le p) (gate-le q) (λ x i. rw (h x i))
 
   -- the two passes
-  pub entered : {cells₀ cells₁ cells₂ : List ℕ} {groups : ℕ} → Zeros groups cells₀ → Adding (cellOf b) cells₀ (partsAt b covered 1 (K b)) cells₁ [] → Adding (cellOf b) cells₁ (restsAt b rests 1 (N b)) cells₂ [] → Entered b cells₂
+  pub entered : {cells₀ cells₁ cells₂ : List ℕ} {groups : ℕ} → Zeros groups cells₀ → Adding (cellOf b) cells₀ (partsAt b covered 1 (K b)) cells₁ [] → Adding (cellOf b) cells₁ (restsAt b rests 1 (N b)) cells₂ [] → AllPosted b cells₂
   unfolding amountOf
   entered z p r = record {
     each = λ q. omega (arith, z .each q, adding-end p q, adding-end r q, t .sums (λ x. if inCell (cellOf b) q x then x .amount else 0) (λ x e. omega (arith, gate-le (inCell (cellOf b) q) x)));
@@ -120,13 +120,13 @@ in-tier true a t c h i = by (apart t =? t) (beside t c h i)
 
 -- ---- cells with every exposure
 
-module _ {b cells : List ℕ} (acc : Accepted b) (e : Entered b cells) where
+module _ {b cells : List ℕ} (acc : Accepted b) (e : AllPosted b cells) where
   pub entry-le : (q : ℕ) → getD cells q 0 ≤ 900 * M
   entry-le q = omega (arith, e .each q, amount-le (inCell (cellOf b) q) (exposures (bookOf b)), all-le b acc)
 
   module _ {covered rests : List ℕ} (t : Tabled b covered rests) where
     -- the cell of an exposure is in one row
-    one-row : (c : ℕ) → c < columns → (x : Exposure) → Inside b x
+    one-row : (c : ℕ) → c < columns → (x : Exposure) → ExposureInside b x
         → sum (λ k. if cellOf b x =? columns * k + c then x .amount else 0) (topsTo b (C b)) ≡ (if columnAt b x =? c then x .amount else 0)
     unfolding cellOf rowOf
     one-row c h x i =
@@ -156,7 +156,7 @@ module _ {b cells : List ℕ} (acc : Accepted b) (e : Entered b cells) where
       pub group-column : (c : ℕ) → c < columns → getD cells (rowOf b g + c) 0 ≡ amountOf (λ x. topOf (counterpartyAt b) (x .counterparty) =? g && columnAt b x =? c) (exposures (bookOf b))
       group-column c h = e .each (rowOf b g + c) ∙ amount-inside acc t _ _ (λ x i. cell-group b x i g l alone c h)
 
-      pub tier-sum : (s : ℕ) → s < tiers → folded (rowAt cells (rowOf b g)) s ≡ exposureOf (bookOf b) g s
+      pub tier-sum : (s : ℕ) → s < tiers → folded (cellsFrom cells (rowOf b g)) s ≡ exposureOf (bookOf b) g s
       unfolding folded exposureOf amountOf bookOf tierOf
       tier-sum s h =
           rw (group-column s (omega arith), group-column (apart s) (apart-le s h))

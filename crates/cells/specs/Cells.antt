@@ -3,7 +3,7 @@
 --   partAt                       what a mitigant covers, as an exposure
 --   apart folded                 the column beside a tier's own that is part of it; a row with such columns folded onto their tiers' own
 --   Rowed Placed Tabled Zeros    the tables that the posting reads, and the cells before it
---   rowAt columnSum              an entry of a row, and the sum over the rows of a column
+--   cellsFrom columnSum              an entry of a row, and the sum over the rows of a column
 --   FoldedRow FoldedRows         a row behind the fold, and the rows of some groups
 --   FoldFits Folded              what the fold asks for and promises
 --   Posted                       the cells behind the posting
@@ -72,33 +72,33 @@ pub record Zeros (groups : ℕ) (cells : List ℕ) : Type 0 where
 
 -- ---- the fold
 
-abbrev pub rowAt : List ℕ → ℕ → ℕ → ℕ
-rowAt cells at column = getD cells (at + column) 0
+abbrev pub cellsFrom : List ℕ → ℕ → ℕ → ℕ
+cellsFrom cells at column = getD cells (at + column) 0
 
 -- a row that starts at `at`, folded
 pub record FoldedRow (at : ℕ) (cells₀ cells : List ℕ) : Type 0 where
   pub size : length cells ≡ length cells₀
-  pub tier : (t : ℕ) → t < tiers → rowAt cells at t ≡ folded (rowAt cells₀ at) t
+  pub tier : (t : ℕ) → t < tiers → cellsFrom cells at t ≡ folded (cellsFrom cells₀ at) t
   pub before : (q : ℕ) → q < at → getD cells q 0 ≡ getD cells₀ q 0
   pub behind : (q : ℕ) → at + tiers ≤ q → getD cells q 0 ≡ getD cells₀ q 0
 
 -- the sum over the rows of a column
 abbrev pub columnSum : List ℕ → ℕ → ℕ → ℕ
-columnSum cells column groups = sum (λ k. rowAt cells (columns * k) column) groups
+columnSum cells column groups = sum (λ k. cellsFrom cells (columns * k) column) groups
 
 -- no sum of the fold passes the greatest number
 pub record FoldFits (groups : ℕ) (cells : List ℕ) : Type 0 where
   pub few : groups ≤ mostGroups
   pub size : columns * groups ≤ length cells
-  pub tier : (k t : ℕ) → k < groups → t < tiers → folded (rowAt cells (columns * k)) t < 2 ^ 64
+  pub tier : (k t : ℕ) → k < groups → t < tiers → folded (cellsFrom cells (columns * k)) t < 2 ^ 64
   pub bills : columnSum cells billColumn groups < 2 ^ 64
   pub free : columnSum cells noLimitColumn groups < 2 ^ 64
 
 -- the rows of so many groups, folded
 pub record FoldedRows (groups : ℕ) (cells₀ cells : List ℕ) : Type 0 where
   pub size : length cells ≡ length cells₀
-  pub tier : (k t : ℕ) → k < groups → t < tiers → rowAt cells (columns * k) t ≡ folded (rowAt cells₀ (columns * k)) t
-  pub other : (k c : ℕ) → k < groups → tiers ≤ c → c < columns → rowAt cells (columns * k) c ≡ rowAt cells₀ (columns * k) c
+  pub tier : (k t : ℕ) → k < groups → t < tiers → cellsFrom cells (columns * k) t ≡ folded (cellsFrom cells₀ (columns * k)) t
+  pub other : (k c : ℕ) → k < groups → tiers ≤ c → c < columns → cellsFrom cells (columns * k) c ≡ cellsFrom cells₀ (columns * k) c
   pub behind : (q : ℕ) → columns * groups ≤ q → getD cells q 0 ≡ getD cells₀ q 0
 
 -- and W and what has no limit

@@ -33,7 +33,7 @@ use Rattle.covering.specs.Bounds.{all-le}
 use Rattle.cells.specs.declared.Sums.{Sums}
 use Rattle.words.specs.Ranges.{sum-zero, sum-within}
 use Rattle.cells.specs.Adding.{amount-none}
-use Rattle.cells.specs.Cells.{rowAt, Posted}
+use Rattle.cells.specs.Cells.{cellsFrom, Posted}
 
 -- ---- places and numbers
 
@@ -93,13 +93,13 @@ module _ (b : List ℕ) (p : ℕ) (l : 0 < parentOf (counterpartyAt b) p) where
 -- ---- rows
 
 module _ {b : List ℕ} {groups : ℕ} {cells₀ cells : List ℕ} {r : Sums} (p : Posted b groups cells₀ cells r) (heads₀ : List ℕ) {heads : List ℕ} (room : C b < length heads₀) (eh : heads ≡ headed b (C b) heads₀) (k : ℕ) (h : k < topsTo b (C b)) where
-  pub row-tier : (t : ℕ) → t < tiers → rowAt cells (columns * k) t ≡ exposureOf (bookOf b) (getD heads k 0) t
+  pub row-tier : (t : ℕ) → t < tiers → cellsFrom cells (columns * k) t ≡ exposureOf (bookOf b) (getD heads k 0) t
   row-tier t l =
       let top = head-is b heads₀ (C b) room k h in
       let row = head-row b heads₀ (C b) room k h in
       rw eh (rw row at (p .tier _ t (top .low) (top .high) (top .alone) l))
 
-  pub row-a3 : (i : ℕ) → i < 5 → rowAt cells (columns * k) (a3Columns + i) ≡ a3ExposureOf (bookOf b) (getD heads k 0) (getD a3Tiers i 0)
+  pub row-a3 : (i : ℕ) → i < 5 → cellsFrom cells (columns * k) (a3Columns + i) ≡ a3ExposureOf (bookOf b) (getD heads k 0) (getD a3Tiers i 0)
   row-a3 i l =
       let top = head-is b heads₀ (C b) room k h in
       let row = head-row b heads₀ (C b) room k h in
@@ -142,7 +142,7 @@ group-le b acc count g l h =
 
 -- over the rows of the groups
 pub rows-le : {b : List ℕ} {groups : ℕ} {cells₀ cells : List ℕ} {r : Sums} → Accepted b → Posted b groups cells₀ cells r → groups ≡ topsTo b (C b)
-    → sum (λ k. sum (rowAt cells (columns * k)) tiers) groups ≤ 900 * M
+    → sum (λ k. sum (cellsFrom cells (columns * k)) tiers) groups ≤ 900 * M
 rows-le {b} {groups} {cells = cells} acc p eg = rw row-sums (omega (arith, whole-le b acc tiers (C b)))
   where
     heads₀ : List ℕ
@@ -157,7 +157,7 @@ rows-le {b} {groups} {cells = cells} acc p eg = rw row-sums (omega (arith, whole
     none : (g : ℕ) → 0 < parentOf (counterpartyAt b) g → of-place g ≡ 0
     none g l = sum-zero (exposureOf (bookOf b) g) tiers (λ t _. exposure-none b g l t)
 
-    row-sums : sum (λ k. sum (rowAt cells (columns * k)) tiers) groups ≡ sum (λ k. of-place (k + 1)) (C b)
+    row-sums : sum (λ k. sum (cellsFrom cells (columns * k)) tiers) groups ≡ sum (λ k. of-place (k + 1)) (C b)
     row-sums =
         sum-same _ (λ k. of-place (getD (headed b (C b) heads₀) k 0)) groups (λ k l. sum-same _ _ tiers (λ t h. row-tier p heads₀ room refl k (omega arith) t h))
         ∙ sym (over-groups b heads₀ of-place room refl eg (λ g _ _ l. none g l))

@@ -6,7 +6,7 @@ ghost use Prim.Native.Nat.{ℕ, _+_, _≤_, _<_, _^_};
 ghost use lib.ListN.{length, getD, set};
 ghost use Rattle.cascade.specs.Cascade.{tiers};
 ghost use Rattle.rows.specs.Rows.{columns};
-ghost use Rattle.cells.specs.Cells.{folded, rowAt, FoldedRow, FoldFits, Folded};
+ghost use Rattle.cells.specs.Cells.{folded, cellsFrom, FoldedRow, FoldFits, Folded};
 
 // The column of what has no limit.
 const NO_LIMIT: usize = TIERS;
@@ -33,7 +33,7 @@ fn add(cells: &mut [u64], to: usize, from: usize)
 
 // The row that starts at `at`: each column that counts for W or A3 added to its tier's own.
 fn fold_row(cells: &mut [u64], at: usize)
-    requires { ⌜ (at + columns ≤ length (now cells)) × ((t : ℕ) → t < tiers → folded (rowAt (now cells) at) t < 2 ^ 64) ⌝ }
+    requires { ⌜ (at + columns ≤ length (now cells)) × ((t : ℕ) → t < tiers → folded (cellsFrom (now cells) at) t < 2 ^ 64) ⌝ }
     ensures { λ r. ⌜ FoldedRow at (now (cells .entry)) (now (cells .exit)) ⌝ }
 {
     add(cells, at + 11, at + BILLS);

@@ -9,7 +9,7 @@ pub fn amount(t: bool, a: u64, b: u64) -> u64
     if t { a } else { b }
 }
 
-pub fn short(t: bool, a: u16, b: u16) -> u16
+pub fn number(t: bool, a: u16, b: u16) -> u16
     ensures { λ r. ⌜ r ≡ (if t then a else b) ⌝ }
 {
     if t { a } else { b }
@@ -21,14 +21,8 @@ pub fn byte(t: bool, a: u8, b: u8) -> u8
     if t { a } else { b }
 }
 
-pub fn test(t: bool, a: bool, b: bool) -> bool
-    ensures { λ r. ⌜ r ≡ (if t then a else b) ⌝ }
-{
-    if t { a } else { b }
-}
-
 // 1 where a test holds.
-pub fn one(t: bool) -> u64
+pub fn one_if(t: bool) -> u64
     ensures { λ r. ⌜ (r ≡ (if t then 1 else 0)) × (r ≤ 1) ⌝ }
 {
     if t { 1 } else { 0 }
@@ -47,7 +41,7 @@ pub fn lesser(a: u64, b: u64) -> u64
 }
 
 // a less b, and 0 where b is the greater.
-pub fn less(a: u64, b: u64) -> u64
+pub fn difference(a: u64, b: u64) -> u64
     ensures { λ r. ⌜ r ≡ a - b ⌝ }
 {
     if a < b { 0 } else { a - b }

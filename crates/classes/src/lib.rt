@@ -15,7 +15,7 @@ fn class_of(who: Counterparty) -> u64
         + choice::amount(book::is_graded(who), 8, 0)
         + choice::amount(book::is_approved(who), 4, 0)
         + choice::amount(book::is_affiliate(who), 2, 0)
-        + choice::one(book::is_related(who))
+        + choice::one_if(book::is_related(who))
 }
 
 // The word of a class. Each eight are one kind, graded or not, by their flags: in turn not related and related, which only a life company's go by.

@@ -64,9 +64,9 @@ fn age_of(entry: u64, months: u64) -> u64
     requires { ⌜ entry ≤ 3 ⌝ }
     ensures { λ r. ⌜ (r ≡ ageOf entry months) × (r < 11) ⌝ }
 {
-    let third = choice::one(2 < months);
-    let twelfth = choice::one(11 < months);
-    let last = choice::one(23 < months);
+    let third = choice::one_if(2 < months);
+    let twelfth = choice::one_if(11 < months);
+    let last = choice::one_if(23 < months);
     AGES >> (4 * (4 * entry + third + twelfth + last)) & 15
 }
 

@@ -18,7 +18,7 @@ use Rattle.book.specs.Accepted.{Accepted}
 use Rattle.exposure.specs.Parts.{halfOf}
 use Rattle.assets.specs.Marks.{ownerBy}
 use Rattle.covering.specs.Covered.{drawnOff, byPlace, heldBy}
-use Rattle.covering.specs.Pass.{Ready, Covers}
+use Rattle.covering.specs.Pass.{Coverable, Covers}
 use Rattle.covering.specs.Owners.{OwnerFits, mark-odd, owner-next, inside}
 use Rattle.covering.specs.Start.{rest-le}
 use Rattle.covering.proofs.Run.{Tables, less, partAt, stillAt, run, drawn-length, draws-le, run-all}
@@ -36,7 +36,7 @@ pub record Running (b starts draws covered₀ halves₀ rests₀ covered halves 
   pub fit : (p : ℕ) → 0 < p → p ≤ N b → getD rests p 0 ≤ M
   pub coming : run b (ownerBy starts) (byPlace draws) place (K b + 1 - place) (tables covered halves rests) ≡ run b (ownerBy starts) (byPlace draws) 1 (K b) (tables covered₀ halves₀ rests₀)
 
-pub running-start : {b starts draws covered halves rests : List ℕ} → Accepted b → Ready b starts draws halves rests → Running b starts draws covered halves rests covered halves rests 0 1
+pub running-start : {b starts draws covered halves rests : List ℕ} → Accepted b → Coverable b starts draws halves rests → Running b starts draws covered halves rests covered halves rests 0 1
 unfolding ownerBy
 running-start {b} acc r =
     let d : K b + 1 - 1 ≡ K b = omega arith in
@@ -58,7 +58,7 @@ less-le t o part n p l h = by (eqb p o) refl
     by true z = let e = eqb-true p o z in rw (e, getD-set-same t o (getD t o 0 - part) 0 l) (omega (arith, rw e at h))
     by false z = rw (getD-set-other t o p (getD t o 0 - part) 0 (eqb-false p o z)) h
 
-module _ {b starts draws covered₀ halves₀ rests₀ covered halves rests : List ℕ} {own place : ℕ} (k : Running b starts draws covered₀ halves₀ rests₀ covered halves rests own place) (acc : Accepted b) (r : Ready b starts draws halves₀ rests₀) where
+module _ {b starts draws covered₀ halves₀ rests₀ covered halves rests : List ℕ} {own place : ℕ} (k : Running b starts draws covered₀ halves₀ rests₀ covered halves rests own place) (acc : Accepted b) (r : Coverable b starts draws halves₀ rests₀) where
   module _ (h : place ≤ K b) {now : ℕ} (en : now ≡ max own (getD starts place 0)) where
     owner-now : now ≡ ownerBy starts place
     owner-now = en ∙ rw (k .owner) (sym (owner-next starts place (k .started)))

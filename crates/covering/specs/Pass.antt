@@ -1,6 +1,6 @@
 -- What the pass over the mitigants asks for and promises; tables by place, entry 0 unused.
 --   Known     the table of counterparties' terms
---   Ready     the tables of assets, owners and halves before it
+--   Coverable     the tables of assets, owners and halves before it
 --   Covers    the tables behind it
 use mathlib.Core.List.{List}
 use mathlib.Core.Path.{_≡_}
@@ -20,7 +20,7 @@ pub record Known (b terms : List ℕ) : Type 0 where
   pub each : (p : ℕ) → 0 < p → p ≤ C b → getD terms p 0 ≡ termsOf (counterpartyAt b p)
 
 -- each mitigant's owner; whose half each asset draws on, each counterparty's half, and what there is of each asset
-pub record Ready (b starts draws halves rests : List ℕ) : Type 0 where
+pub record Coverable (b starts draws halves rests : List ℕ) : Type 0 where
   pub starts-size : K b < length starts
   pub draws-size : N b < length draws
   pub halves-size : C b < length halves

@@ -16,7 +16,7 @@ use Rattle.assets.specs.Marks.{markOf, marked}
 use Rattle.assets.specs.Shares.{restOf, drawsOn}
 use Rattle.assets.specs.Halves.{added, Halved, added-length, halves-are}
 use Rattle.covering.specs.Owners.{owned}
-use Rattle.covering.specs.Pass.{Ready}
+use Rattle.covering.specs.Pass.{Coverable}
 
 pub rest-le : (c : ℕ) (a : Asset) → AssetFits c a → restOf a ≤ M
 unfolding restOf
@@ -35,7 +35,7 @@ thereAt b p = restOf (assetAt b p)
 
 module _ (b starts draws halves₀ rests : List ℕ) (acc : Accepted b) (ls : K b + 1 < length starts) (ld : N b < length draws) (lh : C b < length halves₀) (lr : N b < length rests)
     (unmarked : (q : ℕ) → getD starts q 0 ≡ 0) (undrawn : (q : ℕ) → getD halves₀ q 0 ≡ 0) {halves : List ℕ} (half : Halved (added b halves₀ 1 (N b)) halves) where
-  pub ready : Ready b (marked b starts 1 1 (N b)) (filled (λ p. drawsOn (counterpartyAt b) (assetAt b p)) (N b) draws) halves (filled (λ p. restOf (assetAt b p)) (N b) rests)
+  pub ready : Coverable b (marked b starts 1 1 (N b)) (filled (λ p. drawsOn (counterpartyAt b) (assetAt b p)) (N b) draws) halves (filled (λ p. restOf (assetAt b p)) (N b) rests)
   ready =
       record {
         starts-size = omega (arith, marked-length b (N b) 1 1 starts);

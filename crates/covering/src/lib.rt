@@ -10,7 +10,7 @@ ghost use Rattle.book.specs.Fields.{reinsurance};
 ghost use Rattle.book.specs.Accepted.{Accepted};
 ghost use Rattle.exposure.specs.Parts.{covers};
 ghost use Rattle.covering.specs.Covered.{stillOf, drawnOff};
-ghost use Rattle.covering.specs.Pass.{Known, Ready, Covers};
+ghost use Rattle.covering.specs.Pass.{Known, Coverable, Covers};
 
 // 2^63, above any amount.
 const HIGH: u64 = 9_223_372_036_854_775_808;
@@ -72,7 +72,7 @@ fn draw(on: usize, part: u64, halves: &mut [u64])
     ensures { λ _. ⌜ now (halves .exit) ≡ drawnOff on part (now (halves .entry)) ⌝ }
 {
     let half = halves[on];
-    halves[on] = choice::amount(on == 0, half, choice::less(half, part));
+    halves[on] = choice::amount(on == 0, half, choice::difference(half, part));
 }
 
 // Every mitigant in book order: what it covers, taken off what is left of its asset and off the half that its asset draws on.
@@ -87,7 +87,7 @@ pub fn cover(
     rests: &mut [u64],
     covered: &mut [u64],
 )
-    requires { ⌜ (Accepted (now b)) × (start ≡ mitigantsStart (now b)) × (k ≡ K (now b)) × (Known (now b) (now terms)) × (Ready (now b) (now starts) (now draws) (now halves) (now rests)) × (k < length (now covered)) ⌝ }
+    requires { ⌜ (Accepted (now b)) × (start ≡ mitigantsStart (now b)) × (k ≡ K (now b)) × (Known (now b) (now terms)) × (Coverable (now b) (now starts) (now draws) (now halves) (now rests)) × (k < length (now covered)) ⌝ }
     ensures { λ r. ⌜ Covers (now (b .entry)) (now (covered .entry)) (now (halves .entry)) (now (rests .entry)) (now (covered .exit)) (now (halves .exit)) (now (rests .exit)) ⌝ }
 {
     let mut own = 0;

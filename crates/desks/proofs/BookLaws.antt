@@ -16,7 +16,7 @@ use Rattle.wire.specs.Bytes.{byteAt}
 use Rattle.figures.specs.Fund.{Fund}
 use Rattle.bills.specs.Lines.{ExposureLine, amountIn, unserved, after, excessLines}
 use Rattle.bills.specs.Bills.{deskCount, amountOfDesk}
-use Rattle.bills.specs.Tables.{Inside, LinesOf}
+use Rattle.bills.specs.Tables.{LineInside, LinesOf}
 use Rattle.bills.proofs.Served.{excess-none}
 use Rattle.book.specs.declared.Counterparty.{Counterparty}
 use Rattle.book.specs.declared.Asset.{Asset}
@@ -36,7 +36,7 @@ use Rattle.exposure.specs.Sums.{amountOf, exposureOf}
 use Rattle.columns.specs.ColumnLaws.{tier-le}
 use Rattle.covering.specs.Covered.{heldBy, holdingAt}
 use Rattle.covering.specs.ByPlace.{partsAt, Parted, PartedFrom, PartedBook}
-use Rattle.desks.specs.BookLines.{lineOf, holdingLines, bookLines}
+use Rattle.desks.specs.BookLines.{exposureLine, holdingLines, bookLines}
 use Rattle.desks.specs.Pass.{partLines, restLine, assetLines, linesAt}
 
 -- ---- out of the tables
@@ -56,11 +56,11 @@ module _ (d : ℕ) where
     cs = counterpartyAt b
 
     lines-none : (desk place more : ℕ) → All (λ (x : Exposure). x .amount ≡ 0) (partsAt b covered place more) → All (λ x. x .amount ≡ 0) (partLines b covered desk place more)
-    unfolding partLines lineOf
-    lines-none desk place more h = all-mapped (λ (x : ExposureLine). x .amount ≡ 0) (lineOf cs desk) (partsAt b covered place more) h
+    unfolding partLines exposureLine
+    lines-none desk place more h = all-mapped (λ (x : ExposureLine). x .amount ≡ 0) (exposureLine cs desk) (partsAt b covered place more) h
 
     rest-none : (place : ℕ) → getD rests place 0 ≡ 0 → restLine b rests place .amount ≡ 0
-    unfolding lineOf remainder
+    unfolding exposureLine remainder
     rest-none place z = z
 
     -- one asset: its lines as they are, or, where it is linked, none and lines without an amount
@@ -80,7 +80,7 @@ module _ (d : ℕ) where
             let n = p .none e in
             let zero-lines = all-append (λ (x : ExposureLine). x .amount ≡ 0) (partLines b covered (a .desk) first (a .count)) (restLine b rests place ∷ []) (lines-none (a .desk) first (a .count) (n .0)) (rest-none place (n .1), tt) in
             excess-none d (assetLines b covered rests place first) ys zero-lines s ∙ h s ∙ rw (linked-none cs left (holdingAt b place first) e)
-        by false e = rw (p .parts e, map-append (lineOf cs (a .desk)) (partsAt b covered first (a .count)) (rest ∷ [])) (behind-lines (assetLines b covered rests place first) ys zs h s)
+        by false e = rw (p .parts e, map-append (exposureLine cs (a .desk)) (partsAt b covered first (a .count)) (rest ∷ [])) (behind-lines (assetLines b covered rests place first) ys zs h s)
 
     lines-from : (left : ℕ → ℕ) (more place first : ℕ) → PartedFrom b covered rests left place first more
         → (s : ℕ → ℕ → ℕ) → excessFrom s (linesAt b covered rests place first more) ≡ excessFrom s (eachDrawing cs (holdingLines cs) left (holdingsFrom b place first more))
@@ -101,12 +101,12 @@ module _ (d : ℕ) where
 
 -- the lines of a group's tier are its exposures there
 line-amounts : (B : Book) (g t : ℕ) → amountIn g t (bookLines B) ≡ exposureOf B g t
-unfolding amountIn exposureOf amountOf bookLines holdingLines lineOf exposures
+unfolding amountIn exposureOf amountOf bookLines holdingLines exposureLine exposures
 line-amounts B g t =
     let cs = B .counterparty in
     let inTier : ExposureLine → ℕ = λ x. if x .group =? g && x .tier =? t then x .amount else 0 in
     let counts : Exposure → ℕ = λ x. if topOf cs (x .counterparty) =? g && tierOf cs x =? t then x .amount else 0 in
-    drawing-sum cs inTier counts (holdingLines cs) (exposuresOf cs) (λ left h. sum-map inTier (lineOf cs (h .asset .desk)) (exposuresOf cs left h)) (halfOf (B .holdings)) (B .holdings)
+    drawing-sum cs inTier counts (holdingLines cs) (exposuresOf cs) (λ left h. sum-map inTier (exposureLine cs (h .asset .desk)) (exposuresOf cs left h)) (halfOf (B .holdings)) (B .holdings)
 
 -- every line is of a group of the book, a tier or no limit, and a desk
 module _ (b : List ℕ) (acc : Accepted b) (byte : (k : ℕ) → getD b k 0 < 256) where
@@ -138,8 +138,8 @@ module _ (b : List ℕ) (acc : Accepted b) (byte : (k : ℕ) → getD b k 0 < 25
   abbrev Kept : Fund → Type 0
   Kept F = (F .groups ≡ C b) × (F .tiers ≡ tiers)
 
-  line-inside : (F : Fund) → Kept F → (place : ℕ) (x : Exposure) → To x → Inside F (lineOf (counterpartyAt b) (assetAt b place .desk) x)
-  unfolding lineOf tierOf
+  line-inside : (F : Fund) → Kept F → (place : ℕ) (x : Exposure) → To x → LineInside F (exposureLine (counterpartyAt b) (assetAt b place .desk) x)
+  unfolding exposureLine tierOf
   line-inside F k place x h = (
     top-pos (counterpartyAt b) (x .counterparty) (h .0),
     omega (arith, k .0, top-le (counterpartyAt b) (x .counterparty)),
@@ -148,26 +148,26 @@ module _ (b : List ℕ) (acc : Accepted b) (byte : (k : ℕ) → getD b k 0 < 25
   )
 
   holding-inside : (F : Fund) → Kept F → (left : ℕ → ℕ) (place first : ℕ) → 0 < place → place ≤ N b → 0 < first → first + assetAt b place .count ≤ K b + 1
-      → All (Inside F) (holdingLines (counterpartyAt b) left (holdingAt b place first))
+      → All (LineInside F) (holdingLines (counterpartyAt b) left (holdingAt b place first))
   unfolding holdingLines exposuresOf
   holding-inside F k left place first l h m c =
       let a = assetAt b place in
       let f = acc .asset place l h in
       let cs = counterpartyAt b in
       let parts = partsOf cs a (mitigantsFrom b first (a .count)) (mayBeCovered cs left a) (net a) in
-      all-mapped (Inside F) (lineOf cs (a .desk)) (if linked a then [] else parts)
+      all-mapped (LineInside F) (exposureLine cs (a .desk)) (if linked a then [] else parts)
       (all-map (line-inside F k place) (if linked a then [] else parts)
       (by-test (All To) (linked a) [] parts (λ _. tt) (λ _. parts-to a (mitigantsFrom b first (a .count)) (mayBeCovered cs left a) (net a) (f .low) (f .high) (mitigants-of (a .count) first m c))))
 
   holdings-inside : (F : Fund) → Kept F → (left : ℕ → ℕ) (more place first : ℕ) → 0 < place → place + more ≤ N b + 1 → 0 < first → first + heldBy (holdingsFrom b place first more) ≤ K b + 1
-      → All (Inside F) (eachDrawing (counterpartyAt b) (holdingLines (counterpartyAt b)) left (holdingsFrom b place first more))
+      → All (LineInside F) (eachDrawing (counterpartyAt b) (holdingLines (counterpartyAt b)) left (holdingsFrom b place first more))
   unfolding holdingsFrom eachDrawing sumOf
   holdings-inside F k left zero place first l h m c = tt
   holdings-inside F k left (suc more) place first l h m c =
       let cs = counterpartyAt b in
       let count = assetAt b place .count in
       let next = leftAfter cs left (holdingAt b place first) in
-      all-append (Inside F) (holdingLines cs left (holdingAt b place first)) (eachDrawing cs (holdingLines cs) next (holdingsFrom b (place + 1) (first + count) more))
+      all-append (LineInside F) (holdingLines cs left (holdingAt b place first)) (eachDrawing cs (holdingLines cs) next (holdingsFrom b (place + 1) (first + count) more))
       (holding-inside F k left place first l (omega arith) m (omega arith))
       (holdings-inside F k next more (place + 1) (first + count) (omega arith) (omega arith) (omega arith) (omega arith))
 

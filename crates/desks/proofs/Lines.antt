@@ -25,14 +25,14 @@ use Rattle.assets.specs.Assets.{restCell}
 use Rattle.covering.specs.Covered.{heldBy}
 use Rattle.covering.specs.ByPlace.{partsAt}
 use Rattle.cells.specs.Cells.{columnAt, cellOf, partAt, Rowed}
-use Rattle.cells.specs.CellLaws.{Inside, rest-cell}
-use Rattle.desks.specs.BookLines.{lineOf}
+use Rattle.cells.specs.CellLaws.{ExposureInside, rest-cell}
+use Rattle.desks.specs.BookLines.{exposureLine}
 use Rattle.desks.specs.Pass.{lineCell, partLines, restLine, assetLines, linesAt, Lined, PartsServed, Served}
 use Rattle.desks.specs.LineLaws.{line-in, line-cell, line-small, rest-in, all-from}
 use Rattle.desks.proofs.BookLaws.{desk-few}
 
 module _ {b : List ℕ} (acc : Accepted b) where
-  part-in : (place amount : ℕ) → 0 < place → place ≤ K b → Inside b (partAt b place amount)
+  part-in : (place amount : ℕ) → 0 < place → place ≤ K b → ExposureInside b (partAt b place amount)
   unfolding coveredPart
   part-in place amount l h = let m = acc .mitigant place l h in record { low = m .low; high = m .high }
 
@@ -40,19 +40,19 @@ module _ {b : List ℕ} (acc : Accepted b) where
 
   -- the line of an exposure is served
   module _ {all : List ExposureLine} {still₀ desks₀ : List ℕ} {more : List ExposureLine} {still desks : List ℕ} (s : Serving (lineCell b) all still₀ desks₀ more still desks)
-      (desk : ℕ) (x : Exposure) (i : Inside b x) {cell : ℕ} (e : cell ≡ lineCell b (lineOf (counterpartyAt b) desk x)) {rest : List ExposureLine} (f : more ≡ lineOf (counterpartyAt b) desk x ∷ rest) where
+      (desk : ℕ) (x : Exposure) (i : ExposureInside b x) {cell : ℕ} (e : cell ≡ lineCell b (exposureLine (counterpartyAt b) desk x)) {rest : List ExposureLine} (f : more ≡ exposureLine (counterpartyAt b) desk x ∷ rest) where
     abbrev line : ExposureLine
-    line = lineOf (counterpartyAt b) desk x
+    line = exposureLine (counterpartyAt b) desk x
 
     pub at-cell : Lined b still₀ desks₀ → cell < length still
     at-cell l = omega (arith, e, line-small b line (line-in b desk x i), l .cells, s .cells)
 
     pub room : All (λ y. y .desk < length desks₀) more → ((d : ℕ) → byDesk (desksAfter (lineCell b) all still₀ desks₀) d < 2 ^ 64) → getD desks desk 0 + (x .amount - getD still cell 0) < 2 ^ 64
-    unfolding lineOf
+    unfolding exposureLine
     room h fits = rw e (omega (arith, serving-room (lineCell b) s line f h, fits desk))
 
     pub step : {still′ desks′ : List ℕ} → LineServed cell (x .amount) desk still still′ desks desks′ → Serving (lineCell b) all still₀ desks₀ rest still′ desks′
-    unfolding lineOf
+    unfolding exposureLine
     step l = serving-step (lineCell b) s line f (rw e at l)
 
 -- ---- cells
@@ -74,7 +74,7 @@ module _ {b : List ℕ} {place : ℕ} {m : Mitigant} (acc : Accepted b) (l : 0 <
     column-few = omega (arith, part-column 0, column-le (coveredPart m (counterpartyAt b (m .counterparty)) 0) (counterpartyAt b (m .counterparty)))
 
     pub part-cell : {table : List ℕ} → Tiered table → {row tier : ℕ} → row ≡ getD rows (m .counterparty) 0 → tier ≡ getD table column 0
-        → (desk amount : ℕ) → row + tier ≡ lineCell b (lineOf (counterpartyAt b) desk (partAt b place amount))
+        → (desk amount : ℕ) → row + tier ≡ lineCell b (exposureLine (counterpartyAt b) desk (partAt b place amount))
     unfolding coveredPart
     part-cell t er et desk amount =
         let f = part-fits in
@@ -93,7 +93,7 @@ rest-row b place er ec =
 
 module _ (b covered : List ℕ) (desk : ℕ) where
   parts-next : (place end : ℕ) → place < end
-      → partLines b covered desk place (end - place) ≡ lineOf (counterpartyAt b) desk (partAt b place (getD covered place 0)) ∷ partLines b covered desk (place + 1) (end - (place + 1))
+      → partLines b covered desk place (end - place) ≡ exposureLine (counterpartyAt b) desk (partAt b place (getD covered place 0)) ∷ partLines b covered desk (place + 1) (end - (place + 1))
   unfolding partLines partsAt
   parts-next place end l = let d : end - place ≡ suc (end - (place + 1)) = omega arith in rw d
 
@@ -101,14 +101,14 @@ module _ (b covered : List ℕ) (desk : ℕ) where
   unfolding partLines partsAt
   parts-end place end l = let d : end - place ≡ 0 = omega arith in rw d
 
-  all-same : (P : ℕ → Type 0) → P desk → (xs : List Exposure) → All (λ x. P (lineOf (counterpartyAt b) desk x .desk)) xs
-  unfolding lineOf
+  all-same : (P : ℕ → Type 0) → P desk → (xs : List Exposure) → All (λ x. P (exposureLine (counterpartyAt b) desk x .desk)) xs
+  unfolding exposureLine
   all-same P p [] = tt
   all-same P p (x ∷ xs) = (p, all-same P p xs)
 
   parts-desk : (P : ℕ → Type 0) → P desk → (place more : ℕ) → All (λ y. P (y .desk)) (partLines b covered desk place more)
   unfolding partLines
-  parts-desk P p place more = all-mapped (λ y. P (y .desk)) (lineOf (counterpartyAt b) desk) (partsAt b covered place more) (all-same P p (partsAt b covered place more))
+  parts-desk P p place more = all-mapped (λ y. P (y .desk)) (exposureLine (counterpartyAt b) desk) (partsAt b covered place more) (all-same P p (partsAt b covered place more))
 
 -- the loop over an asset's mitigants, before the one at a place
 pub record OnParts (b covered : List ℕ) (desk first end : ℕ) (still₀ desks₀ still desks : List ℕ) (place : ℕ) : Type 0 where
@@ -124,11 +124,11 @@ module _ {b covered : List ℕ} {desk first end : ℕ} {still₀ desks₀ still 
   pub parts-served : end ≤ place → PartsServed b covered desk first (end - first) still₀ desks₀ still desks
   parts-served l = let r = serving-end (lineCell b) (o .serving) (parts-end b covered desk place end l) in record { given = r .0; excess = r .1 }
 
-  module _ (acc : Accepted b) (z : 0 < first) (k : end ≤ K b + 1) (l : place < end) {cell : ℕ} (e : (desk amount : ℕ) → cell ≡ lineCell b (lineOf (counterpartyAt b) desk (partAt b place amount))) where
+  module _ (acc : Accepted b) (z : 0 < first) (k : end ≤ K b + 1) (l : place < end) {cell : ℕ} (e : (desk amount : ℕ) → cell ≡ lineCell b (exposureLine (counterpartyAt b) desk (partAt b place amount))) where
     abbrev part : Exposure
     part = partAt b place (getD covered place 0)
 
-    inside : Inside b part
+    inside : ExposureInside b part
     inside = part-in acc place (getD covered place 0) (omega (arith, o .low)) (omega arith)
 
     pub part-at : Lined b still₀ desks₀ → cell < length still
@@ -210,8 +210,8 @@ module _ {b covered rests still₀ desks₀ still desks : List ℕ} {place first
       pub own-desk : desk < deskCount
       own-desk = desk-few b acc byte place
 
-      known-desk : (p : ℕ) (x : Exposure) → Inside b x → lineOf (counterpartyAt b) (assetAt b p .desk) x .desk < length desks₀
-      unfolding lineOf
+      known-desk : (p : ℕ) (x : Exposure) → ExposureInside b x → exposureLine (counterpartyAt b) (assetAt b p .desk) x .desk < length desks₀
+      unfolding exposureLine
       known-desk p x i = omega (arith, desk-few b acc byte p, t .places)
 
       all-desks : All (λ y. y .desk < length desks₀) (linesAt b covered rests place first (N b + 1 - place))
@@ -239,12 +239,12 @@ module _ {b covered rests still₀ desks₀ still desks : List ℕ} {place first
         abbrev rest : Exposure
         rest = remainder (assetAt b place) (getD rests place 0)
 
-        inside-rest : Inside b rest
+        inside-rest : ExposureInside b rest
         inside-rest = rest-in b acc place (getD rests place 0) (o .low) l
 
         -- its cell, out of its row and its place
         module _ {row q cell : ℕ} (er : row ≡ rowOf b (assetAt b place .counterparty)) (eq : q ≡ restCell b place) (c : cell ≡ row + tierIn (q - row)) where
-          cell-rest : cell ≡ lineCell b (lineOf (counterpartyAt b) (assetAt b place .desk) rest)
+          cell-rest : cell ≡ lineCell b (exposureLine (counterpartyAt b) (assetAt b place .desk) rest)
           unfolding cellOf remainder
           cell-rest =
               let column = columnAt b rest in

@@ -1,5 +1,5 @@
 -- C-14: "the exposure lines in book order, each asset's covered parts before its remainder".
---   lineOf         the line of an exposure of an asset of such a desk
+--   exposureLine         the line of an exposure of an asset of such a desk
 --   holdingLines   the lines of an asset with its mitigants, where `left` is left of the halves
 --   bookLines      those of a book
 use mathlib.Core.List.{List, map}
@@ -12,12 +12,12 @@ use Rattle.exposure.specs.Parts.{halfOf, exposuresOf, eachDrawing}
 use Rattle.exposure.specs.Tier.{tierOf}
 
 -- the group and tier where the report counts the exposure
-unfoldable pub lineOf : (ℕ → Counterparty) → ℕ → Exposure → ExposureLine
-lineOf cs desk x = record { group = topOf cs (x .counterparty); tier = tierOf cs x; amount = x .amount; desk = desk }
+unfoldable pub exposureLine : (ℕ → Counterparty) → ℕ → Exposure → ExposureLine
+exposureLine cs desk x = record { group = topOf cs (x .counterparty); tier = tierOf cs x; amount = x .amount; desk = desk }
 
 -- `exposuresOf` gives an asset's covered parts in the order of its mitigants and then its remainder, and nothing where it is linked; the desk is the asset's
 unfoldable pub holdingLines : (ℕ → Counterparty) → (ℕ → ℕ) → Holding → List ExposureLine
-holdingLines cs left h = map (lineOf cs (h .asset .desk)) (exposuresOf cs left h)
+holdingLines cs left h = map (exposureLine cs (h .asset .desk)) (exposuresOf cs left h)
 
 -- with the halves drawn on as the exposures draw on them
 unfoldable pub bookLines : Book → List ExposureLine

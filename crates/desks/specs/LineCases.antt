@@ -7,7 +7,7 @@ use Rattle.book.specs.Book.{bookOf}
 use Rattle.exposure.specs.Examples.{opened}
 use Rattle.bills.specs.Lines.{ExposureLine}
 use Rattle.covering.specs.ByPlace.{partsAt}
-use Rattle.desks.specs.BookLines.{lineOf, holdingLines, bookLines}
+use Rattle.desks.specs.BookLines.{exposureLine, holdingLines, bookLines}
 use Rattle.desks.specs.Pass.{partLines, assetLines, linesAt}
 
 abbrev line : ℕ → ℕ → ℕ → ℕ → ExposureLine
@@ -26,19 +26,19 @@ book = deskBytes 1000 0 0 names (deskAsset 3 7 0 0 0 3 2 100 0 0 0 0 ∷ deskAss
 
 -- "in book order, each asset's covered parts before its remainder": the parts in the groups of those who guarantee, at the asset's desk; nothing of what is linked
 lines-case : bookLines (bookOf book) ≡ line 2 11 30 3 ∷ line 1 2 20 3 ∷ line 1 0 50 3 ∷ line 1 0 50 255 ∷ []
-unfolding bookComputed opened lineOf holdingLines bookLines
+unfolding bookComputed opened exposureLine holdingLines bookLines
 lines-case = refl
 
 -- "as does every line of a version 1 book": the same book without desks
 first-case :
     bookLines (bookOf (bookBytes 1000 0 0 names (asset 7 0 0 0 3 2 100 0 0 0 0 ∷ asset 7 1 0 0 3 1 60 0 0 0 0 ∷ asset 11 0 0 0 3 0 50 0 0 0 0 ∷ []) guarantees))
     ≡ line 2 11 30 0 ∷ line 1 2 20 0 ∷ line 1 0 50 0 ∷ line 1 0 50 0 ∷ []
-unfolding bookComputed opened lineOf holdingLines bookLines
+unfolding bookComputed opened exposureLine holdingLines bookLines
 first-case = refl
 
 -- out of the tables by place, those of the linked asset with no amount
 table-case :
     linesAt book (0 ∷ 30 ∷ 20 ∷ 0 ∷ []) (0 ∷ 50 ∷ 0 ∷ 50 ∷ []) 1 1 3
     ≡ line 2 11 30 3 ∷ line 1 2 20 3 ∷ line 1 0 50 3 ∷ line 2 11 0 4 ∷ line 1 0 0 4 ∷ line 1 0 50 255 ∷ []
-unfolding bookComputed opened lineOf partsAt partLines assetLines linesAt
+unfolding bookComputed opened exposureLine partsAt partLines assetLines linesAt
 table-case = refl

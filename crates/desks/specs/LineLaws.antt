@@ -33,8 +33,8 @@ use Rattle.parties.specs.RowLaws.{top-alone, top-self, top-top, same-row, row-s
 use Rattle.covering.specs.Covered.{heldBy}
 use Rattle.covering.specs.ByPlace.{partsAt}
 use Rattle.cells.specs.Cells.{columnAt}
-use Rattle.cells.specs.CellLaws.{Inside, part-inside, cell-parts}
-use Rattle.desks.specs.BookLines.{lineOf}
+use Rattle.cells.specs.CellLaws.{ExposureInside, part-inside, cell-parts}
+use Rattle.desks.specs.BookLines.{exposureLine}
 use Rattle.desks.specs.Pass.{lineCell, partLines, restLine, assetLines, linesAt}
 
 module _ (b : List ℕ) where
@@ -44,8 +44,8 @@ module _ (b : List ℕ) where
     pub alone : parentOf (counterpartyAt b) (x .group) ≡ 0
     pub tier : x .tier ≤ tiers
 
-  pub line-in : (desk : ℕ) (x : Exposure) → Inside b x → InBook (lineOf (counterpartyAt b) desk x)
-  unfolding lineOf tierOf
+  pub line-in : (desk : ℕ) (x : Exposure) → ExposureInside b x → InBook (exposureLine (counterpartyAt b) desk x)
+  unfolding exposureLine tierOf
   line-in desk x i = record {
     low = top-pos (counterpartyAt b) (x .counterparty) (i .low);
     high = omega (arith, top-le (counterpartyAt b) (x .counterparty), i .high);
@@ -53,8 +53,8 @@ module _ (b : List ℕ) where
     tier = tier-le x (counterpartyAt b (x .counterparty));
   }
 
-  pub line-cell : (desk : ℕ) (x : Exposure) → rowOf b (x .counterparty) + tierIn (columnAt b x) ≡ lineCell b (lineOf (counterpartyAt b) desk x)
-  unfolding lineCell lineOf rowOf tierOf
+  pub line-cell : (desk : ℕ) (x : Exposure) → rowOf b (x .counterparty) + tierIn (columnAt b x) ≡ lineCell b (exposureLine (counterpartyAt b) desk x)
+  unfolding lineCell exposureLine rowOf tierOf
   line-cell desk x = let cs = counterpartyAt b in rw (top-top cs (x .counterparty), tier-in x (cs (x .counterparty)))
 
   pub line-small : (x : ExposureLine) → InBook x → lineCell b x < columns * topsTo b (C b)
@@ -89,19 +89,19 @@ module _ (b : List ℕ) where
 
   -- ---- the lines at the places
 
-  pub rest-in : Accepted b → (place amount : ℕ) → 0 < place → place ≤ N b → Inside b (remainder (assetAt b place) amount)
+  pub rest-in : Accepted b → (place amount : ℕ) → 0 < place → place ≤ N b → ExposureInside b (remainder (assetAt b place) amount)
   unfolding remainder
   rest-in acc place amount l h = let a = acc .asset place l h in record { low = a .low; high = a .high }
 
   module _ (acc : Accepted b) (covered rests : List ℕ) (P : ExposureLine → Type 0) where
     abbrev OfLine : Type 0
-    OfLine = (place : ℕ) (x : Exposure) → Inside b x → P (lineOf (counterpartyAt b) (assetAt b place .desk) x)
+    OfLine = (place : ℕ) (x : Exposure) → ExposureInside b x → P (exposureLine (counterpartyAt b) (assetAt b place .desk) x)
 
     pub all-parts : (place first more : ℕ) → OfLine → 0 < first → first + more ≤ K b + 1 → All P (partLines b covered (assetAt b place .desk) first more)
     unfolding partLines
     all-parts place first more f l h =
         let xs = partsAt b covered first more in
-        all-mapped P (lineOf (counterpartyAt b) (assetAt b place .desk)) xs (all-map (f place) xs (part-inside b acc covered more first l h))
+        all-mapped P (exposureLine (counterpartyAt b) (assetAt b place .desk)) xs (all-map (f place) xs (part-inside b acc covered more first l h))
 
     pub all-from : (more place first : ℕ) → OfLine → 0 < place → place + more ≤ N b + 1 → 0 < first → first + heldBy (holdingsFrom b place first more) ≤ K b + 1 → All P (linesAt b covered rests place first more)
     unfolding linesAt assetLines holdingsFrom sumOf

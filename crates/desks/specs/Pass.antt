@@ -20,17 +20,17 @@ use Rattle.columns.specs.Column.{Tiered}
 use Rattle.parties.specs.Rows.{topsTo, rowOf}
 use Rattle.covering.specs.ByPlace.{partsAt}
 use Rattle.cells.specs.Cells.{Rowed, Placed}
-use Rattle.desks.specs.BookLines.{lineOf}
+use Rattle.desks.specs.BookLines.{exposureLine}
 
 unfoldable pub lineCell : List ℕ → ExposureLine → ℕ
 lineCell b x = rowOf b (x .group) + x .tier
 
 -- of `more` mitigants from a place on, of an asset of such a desk
 unfoldable pub partLines : List ℕ → List ℕ → ℕ → ℕ → ℕ → List ExposureLine
-partLines b covered desk place more = map (lineOf (counterpartyAt b) desk) (partsAt b covered place more)
+partLines b covered desk place more = map (exposureLine (counterpartyAt b) desk) (partsAt b covered place more)
 
 abbrev pub restLine : List ℕ → List ℕ → ℕ → ExposureLine
-restLine b rests place = lineOf (counterpartyAt b) (assetAt b place .desk) (remainder (assetAt b place) (getD rests place 0))
+restLine b rests place = exposureLine (counterpartyAt b) (assetAt b place .desk) (remainder (assetAt b place) (getD rests place 0))
 
 -- of the asset at a place, whose first mitigant is the one at `first`
 unfoldable pub assetLines : List ℕ → List ℕ → List ℕ → ℕ → ℕ → List ExposureLine

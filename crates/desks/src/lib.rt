@@ -7,7 +7,7 @@ ghost use Rattle.book.specs.Records.{K, mitigantsStart, counterpartyAt};
 ghost use Rattle.book.specs.Accepted.{Accepted};
 ghost use Rattle.columns.specs.Column.{tierIn, Tiered};
 ghost use Rattle.cells.specs.Cells.{partAt, Rowed};
-ghost use Rattle.desks.specs.BookLines.{lineOf};
+ghost use Rattle.desks.specs.BookLines.{exposureLine};
 ghost use Rattle.desks.specs.Pass.{lineCell, PartsServable, PartsServed};
 
 fn wide(x: u16) -> usize
@@ -26,7 +26,7 @@ fn part_cell(
     tiers: &[u16],
 ) -> usize
     requires { ⌜ (Accepted (now b)) × (start ≡ mitigantsStart (now b)) × (0 < place) × (place ≤ K (now b)) × (Rowed (now b) (now words) (now rows)) × (Tiered (now tiers)) ⌝ }
-    ensures { λ r. ⌜ ((desk amount : ℕ) → r ≡ lineCell (now (b .entry)) (lineOf (counterpartyAt (now (b .entry))) desk (partAt (now (b .entry)) place amount))) ⌝ }
+    ensures { λ r. ⌜ ((desk amount : ℕ) → r ≡ lineCell (now (b .entry)) (exposureLine (counterpartyAt (now (b .entry))) desk (partAt (now (b .entry)) place amount))) ⌝ }
 {
     let m = book::mitigant_at(b, start, place);
     let from = m.counterparty as usize;

@@ -92,6 +92,6 @@ pub fn assets_of(b: &[u8]) -> Assets
     let h = header_at(b);
     Assets {
         start: assets_start(h),
-        counts: choice::short(has_desks(b), book::ONE_BYTE, book::BOTH_BYTES),
+        counts: choice::number(has_desks(b), book::ONE_BYTE, book::BOTH_BYTES),
     }
 }

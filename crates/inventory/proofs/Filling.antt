@@ -32,7 +32,7 @@ use Rattle.assets.specs.Marks.{markOf, marked}
 use Rattle.assets.specs.Shares.{restOf, drawsOn}
 use Rattle.assets.specs.Halves.{added, plus-at}
 use Rattle.assets.specs.Entered.{columnIn, drawnIn, linkedOf, lessNetted, Enters, Entered}
-use Rattle.assets.specs.Assets.{restCell, Lent, Valued}
+use Rattle.assets.specs.Assets.{restCell, AssetRoom, Valued}
 use Rattle.assets.proofs.Sums.{Below, below-start, below-step, below-room, below-end}
 use Rattle.assets.proofs.Laws.{all-sum, linked-sum, reinsurance-sum, count-sum, net-most, linked-most, values-most, netted-most, stressed-most}
 
@@ -99,7 +99,7 @@ pub record Filling (b starts₀ draws₀ halves₀ rests₀ cells₀ starts draw
 abbrev none : Values
 none = record { all = 0; linked = 0; reinsurance = 0; netted = 0; stressed = 0 }
 
-pub filling-start : {b starts draws halves rests cells : List ℕ} → Lent b starts draws halves rests cells → Filling b starts draws halves rests cells starts draws halves rests cells none 1 1
+pub filling-start : {b starts draws halves rests cells : List ℕ} → AssetRoom b starts draws halves rests cells → Filling b starts draws halves rests cells starts draws halves rests cells none 1 1
 filling-start {b} {starts} {draws} {halves} {rests} {cells} l =
     let d : N b + 1 - 1 ≡ N b = omega arith in
     record {
@@ -149,7 +149,7 @@ module _ {b starts₀ draws₀ halves₀ rests₀ cells₀ starts draws halves r
   unfolding treatyNet
   net-most-at q = if-le (reinsurance here && not (linked here) && here .counterparty =? q) (net-le (C b) here fits) (omega arith)
 
-  pub filling-enters : Lent b starts₀ draws₀ halves₀ rests₀ cells₀ → {row : ℕ} → row ≡ rowOf b (here .counterparty) → Enters here place row v draws halves rests cells
+  pub filling-enters : AssetRoom b starts₀ draws₀ halves₀ rests₀ cells₀ → {row : ℕ} → row ≡ rowOf b (here .counterparty) → Enters here place row v draws halves rests cells
   filling-enters l {row} e = record {
     low = fits .kind-low;
     kind = fits .kind;
@@ -236,7 +236,7 @@ module _ {b starts₀ draws₀ halves₀ rests₀ cells₀ starts draws halves r
   row-is : getD rows (a .counterparty) 0 ≡ rowOf b (a .counterparty)
   row-is = t .row (a .counterparty) (who-inside .0) (who-inside .1)
 
-  pub asset-enters : Lent b starts₀ draws₀ halves₀ rests₀ cells₀ → Enters a place (getD rows (a .counterparty) 0) v draws halves rests cells
+  pub asset-enters : AssetRoom b starts₀ draws₀ halves₀ rests₀ cells₀ → Enters a place (getD rows (a .counterparty) 0) v draws halves rests cells
   asset-enters l = rw ea (filling-enters k acc h l (rw ea at row-is))
 
   pub asset-step : {mark : ℕ} {draws′ halves′ rests′ cells′ : List ℕ} {r : Values} → mark ≡ 2 * place + (if reinsurance a then 1 else 0)

@@ -10,14 +10,14 @@ ghost use Rattle.book.specs.Records.{mostAssets, N, assetsOf};
 ghost use Rattle.book.specs.Fields.{reinsurance};
 ghost use Rattle.book.specs.Accepted.{Accepted};
 ghost use Rattle.parties.specs.Rows.{Parties};
-ghost use Rattle.assets.specs.Assets.{Lent, Valued};
+ghost use Rattle.assets.specs.Assets.{AssetRoom, Valued};
 
 // An asset's mark among the mitigants: twice its place, and one more for reinsurance.
 fn mark_of(a: Asset, place: usize) -> u16
     requires { ⌜ place ≤ mostAssets ⌝ }
     ensures { λ r. ⌜ r ≡ 2 * place + (if reinsurance a then 1 else 0) ⌝ }
 {
-    let more = choice::one(book::is_reinsurance(a));
+    let more = choice::one_if(book::is_reinsurance(a));
     (2 * place as u64 + more) as u16
 }
 
@@ -35,7 +35,7 @@ pub fn fill(
     rests: &mut [u64],
     cells: &mut [u16],
 ) -> Values
-    requires { ⌜ (Accepted (now b)) × (assets ≡ assetsOf (now b)) × (n ≡ N (now b)) × (Parties (now b) (now words) (now terms) (now rows)) × (Lent (now b) (now starts) (now draws) (now halves) (now rests) (now cells)) ⌝ }
+    requires { ⌜ (Accepted (now b)) × (assets ≡ assetsOf (now b)) × (n ≡ N (now b)) × (Parties (now b) (now words) (now terms) (now rows)) × (AssetRoom (now b) (now starts) (now draws) (now halves) (now rests) (now cells)) ⌝ }
     ensures { λ r. ⌜ Valued (now (b .entry)) (now (starts .entry)) (now (draws .entry)) (now (halves .entry)) (now (rests .entry)) (now (cells .entry)) (now (starts .exit)) (now (draws .exit)) (now (halves .exit)) (now (rests .exit)) (now (cells .exit)) r ⌝ }
 {
     let mut v = Values {

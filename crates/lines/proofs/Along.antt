@@ -14,7 +14,7 @@ use Rattle.cascade.proofs.Core.{Sorted, apart}
 use Rattle.figures.specs.declared.Line.{Line}
 use Rattle.figures.proofs.Sums.{if-zero}
 use Rattle.rows.specs.Rows.{row}
-use Rattle.lines.specs.Listing.{entry, groupIn, tierIn, exposureIn, Source, before, entryLine, linesAlong}
+use Rattle.lines.specs.Listing.{entry, groupIn, indexIn, exposureIn, Source, before, entryLine, linesAlong}
 use Rattle.lines.proofs.Entries.{group-in, tier-in, exposure-in, groupEntries, groups-in}
 
 module _ (S : Source) where
@@ -30,13 +30,13 @@ module _ (S : Source) where
   pub along-long : (es : List ℕ) (last s : ℕ) → length (linesAlong S last s es) ≡ length es
   unfolding linesAlong
   along-long [] last s = refl
-  along-long (e ∷ es) last s = ap suc (along-long es (groupIn e) (next L (λ _. exposureIn (S .cells) e) (before last s e) (tierIn e)))
+  along-long (e ∷ es) last s = ap suc (along-long es (groupIn e) (next L (λ _. exposureIn (S .cells) e) (before last s e) (indexIn e)))
 
   -- no excess passes its exposure
   pub along-within : (es : List ℕ) (last s : ℕ) → sumOf (λ x. x .excess) (linesAlong S last s es) ≤ sumOf (exposureIn (S .cells)) es
   unfolding linesAlong entryLine sumOf
   along-within [] last s = omega arith
-  along-within (e ∷ es) last s = omega (arith, along-within es (groupIn e) (next L (λ _. exposureIn (S .cells) e) (before last s e) (tierIn e)))
+  along-within (e ∷ es) last s = omega (arith, along-within es (groupIn e) (next L (λ _. exposureIn (S .cells) e) (before last s e) (indexIn e)))
 
   -- one group
   module _ (k : ℕ) where
@@ -64,7 +64,7 @@ module _ (S : Source) where
     unfolding entryLine
     line-in s t l = rw (exposure-in k t l (S .cells), group-in k t l, tier-in k t l)
 
-    next-in : (s t : ℕ) → t < tiers → next L (λ _. exposureIn (S .cells) (entry k t)) s (tierIn (entry k t)) ≡ next L x s t
+    next-in : (s t : ℕ) → t < tiers → next L (λ _. exposureIn (S .cells) (entry k t)) s (indexIn (entry k t)) ≡ next L x s t
     unfolding next
     next-in s t l = rw (exposure-in k t l (S .cells), tier-in k t l)
 
@@ -76,7 +76,7 @@ module _ (S : Source) where
         let g = group-in k t l in
         let u : before k s (entry k t) ≡ s = rw (eq-eqb (groupIn (entry k t)) k g) in
         ap₂ (λ (a : Line) (xs : List Line). a ∷ xs) (ap (λ (r : ℕ). entryLine S r (entry k t)) u ∙ line-in s t l)
-        (ap₂ (λ (j r : ℕ). linesAlong S j r es) g (ap (λ (r : ℕ). next L (λ _. exposureIn (S .cells) (entry k t)) r (tierIn (entry k t))) u ∙ next-in s t l))
+        (ap₂ (λ (j r : ℕ). linesAlong S j r es) g (ap (λ (r : ℕ). next L (λ _. exposureIn (S .cells) (entry k t)) r (indexIn (entry k t))) u ∙ next-in s t l))
 
     -- a tier without exposure adds nothing to what stands
     next-none : (s t : ℕ) → x t ≡ 0 → next L x s t ≡ s

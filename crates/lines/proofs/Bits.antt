@@ -20,7 +20,7 @@ use Rattle.cascade.specs.Promise.{Once}
 use Rattle.rows.specs.Rows.{row}
 use Rattle.figures.proofs.Size.{bits-lt}
 use Rattle.lines.specs.Table.{setOf}
-use Rattle.lines.specs.Listing.{entry, groupIn, tierIn, allEntries, ranks, shownBy, bitFor}
+use Rattle.lines.specs.Listing.{entry, groupIn, indexIn, allEntries, allRanks, shownBy, bitFor}
 use Rattle.lines.proofs.Tries.{those-if}
 use Rattle.lines.proofs.Entries.{group-in, tier-in, set-along}
 use Rattle.lines.proofs.Ranks.{shown-at, ranks-are}
@@ -49,15 +49,15 @@ module _ (f : ℕ → ℕ) where
   bits-within (x ∷ xs) (suc i) zero l = absurd (omega arith)
   bits-within (x ∷ xs) (suc i) (suc n) l = omega (arith, bits-within xs i n (omega arith))
 
-pub own-bit : (ranking : List ℕ) (e : ℕ) → bitFor ranking (groupIn e) e ≡ 2 ^ getD ranking (tierIn e) 0
+pub own-bit : (ranking : List ℕ) (e : ℕ) → bitFor ranking (groupIn e) e ≡ 2 ^ getD ranking (indexIn e) 0
 own-bit ranking e = rw (eq-eqb (groupIn e) (groupIn e) refl)
 
 -- an entry's bit added to its group's set, seen from any group
-pub added-bit : (ranking sets : List ℕ) (e bit : ℕ) → groupIn e < length sets → bit ≡ 2 ^ getD ranking (tierIn e) 0
+pub added-bit : (ranking sets : List ℕ) (e bit : ℕ) → groupIn e < length sets → bit ≡ 2 ^ getD ranking (indexIn e) 0
     → (k : ℕ) → getD (set sets (groupIn e) (getD sets (groupIn e) 0 + bit)) k 0 ≡ getD sets k 0 + bitFor ranking k e
 added-bit ranking sets e bit l q k = by (eqb (groupIn e) k) refl
   where
-    by : (s : Bool) → eqb (groupIn e) k ≡ s → getD (set sets (groupIn e) (getD sets (groupIn e) 0 + bit)) k 0 ≡ getD sets k 0 + (if s then 2 ^ getD ranking (tierIn e) 0 else 0)
+    by : (s : Bool) → eqb (groupIn e) k ≡ s → getD (set sets (groupIn e) (getD sets (groupIn e) 0 + bit)) k 0 ≡ getD sets k 0 + (if s then 2 ^ getD ranking (indexIn e) 0 else 0)
     by true z = rw (← eqb-true (groupIn e) k z) (getD-set-same sets (groupIn e) (getD sets (groupIn e) 0 + bit) 0 l ∙ ap (λ (b : ℕ). getD sets (groupIn e) 0 + b) q)
     by false z = getD-set-other sets (groupIn e) k (getD sets (groupIn e) 0 + bit) 0 (λ w. eqb-false (groupIn e) k z (sym w)) ∙ omega arith
 
@@ -81,44 +81,44 @@ module _ (ranking : List ℕ) (o : Once tiers ranking) (n : length ranking ≡ t
   bitIn j t = if 0 <? byTier (row cells j) t then 2 ^ t else 0
 
   -- what those of one group add
-  group-bits : (k j : ℕ) → sumOf (bitFor ranking k) (those (shownBy cells ranking) (map (entry j) ranks)) ≡ (if j =? k then setOf (row cells j) else 0)
+  group-bits : (k j : ℕ) → sumOf (bitFor ranking k) (those (shownBy cells ranking) (map (entry j) allRanks)) ≡ (if j =? k then setOf (row cells j) else 0)
   group-bits k j =
-      those-if (shownBy cells ranking) (bitFor ranking k) (map (entry j) ranks)
-      ∙ sum-map (λ e. if shownBy cells ranking e then bitFor ranking k e else 0) (entry j) ranks
-      ∙ sum-agree (λ i. if shownBy cells ranking (entry j i) then bitFor ranking k (entry j i) else 0) (λ i. if j =? k then bitIn j (getD ranking i 0) else 0) ranks
-      (all-map (λ i q. bit-at k j i (omega (arith, q .1))) ranks (all-count 0 tiers))
+      those-if (shownBy cells ranking) (bitFor ranking k) (map (entry j) allRanks)
+      ∙ sum-map (λ e. if shownBy cells ranking e then bitFor ranking k e else 0) (entry j) allRanks
+      ∙ sum-agree (λ i. if shownBy cells ranking (entry j i) then bitFor ranking k (entry j i) else 0) (λ i. if j =? k then bitIn j (getD ranking i 0) else 0) allRanks
+      (all-map (λ i q. bit-at k j i (omega (arith, q .1))) allRanks (all-count 0 tiers))
       ∙ by (j =? k)
     where
-      along : sumOf (λ i. bitIn j (getD ranking i 0)) ranks ≡ setOf (row cells j)
+      along : sumOf (λ i. bitIn j (getD ranking i 0)) allRanks ≡ setOf (row cells j)
       along =
-          sym (sum-map (bitIn j) (λ i. getD ranking i 0) ranks) ∙ ap (sumOf (bitIn j)) (ranks-are ranking o n) ∙ sym (set-along ranking o (row cells j))
+          sym (sum-map (bitIn j) (λ i. getD ranking i 0) allRanks) ∙ ap (sumOf (bitIn j)) (ranks-are ranking o n) ∙ sym (set-along ranking o (row cells j))
 
-      by : (s : Bool) → sumOf (λ i. if s then bitIn j (getD ranking i 0) else 0) ranks ≡ (if s then setOf (row cells j) else 0)
+      by : (s : Bool) → sumOf (λ i. if s then bitIn j (getD ranking i 0) else 0) allRanks ≡ (if s then setOf (row cells j) else 0)
       by true = along
       by false = sum-count (λ _. 0) 0 tiers ∙ sum-zero (λ _. 0) tiers (λ _ _. refl)
 
   module _ (groups : ℕ) where
-    all-bits : (k : ℕ) → sumOf (bitFor ranking k) (those (shownBy cells ranking) (allEntries groups ranks)) ≡ sum (λ j. if j =? k then setOf (row cells k) else 0) groups
+    all-bits : (k : ℕ) → sumOf (bitFor ranking k) (those (shownBy cells ranking) (allEntries groups allRanks)) ≡ sum (λ j. if j =? k then setOf (row cells k) else 0) groups
     all-bits k =
-        those-if (shownBy cells ranking) (bitFor ranking k) (allEntries groups ranks)
-        ∙ sum-each (λ e. if shownBy cells ranking e then bitFor ranking k e else 0) (λ j. map (entry j) ranks) (countFrom 0 groups)
-        ∙ sum-count (λ j. sumOf (λ e. if shownBy cells ranking e then bitFor ranking k e else 0) (map (entry j) ranks)) 0 groups
-        ∙ sum-same (λ j. sumOf (λ e. if shownBy cells ranking e then bitFor ranking k e else 0) (map (entry (0 + j)) ranks)) (λ j. if j =? k then setOf (row cells k) else 0) groups
+        those-if (shownBy cells ranking) (bitFor ranking k) (allEntries groups allRanks)
+        ∙ sum-each (λ e. if shownBy cells ranking e then bitFor ranking k e else 0) (λ j. map (entry j) allRanks) (countFrom 0 groups)
+        ∙ sum-count (λ j. sumOf (λ e. if shownBy cells ranking e then bitFor ranking k e else 0) (map (entry j) allRanks)) 0 groups
+        ∙ sum-same (λ j. sumOf (λ e. if shownBy cells ranking e then bitFor ranking k e else 0) (map (entry (0 + j)) allRanks)) (λ j. if j =? k then setOf (row cells k) else 0) groups
         (λ j _. one (0 + j) ∙ ap (λ (g : ℕ). if g =? k then setOf (row cells k) else 0) (omega arith))
       where
         here : (j : ℕ) (s : Bool) → eqb j k ≡ s → (if s then setOf (row cells j) else 0) ≡ (if s then setOf (row cells k) else 0)
         here j true z = ap (λ (g : ℕ). setOf (row cells g)) (eqb-true j k z)
         here j false z = refl
 
-        one : (j : ℕ) → sumOf (λ e. if shownBy cells ranking e then bitFor ranking k e else 0) (map (entry j) ranks) ≡ (if j =? k then setOf (row cells k) else 0)
-        one j = sym (those-if (shownBy cells ranking) (bitFor ranking k) (map (entry j) ranks)) ∙ group-bits k j ∙ here j (eqb j k) refl
+        one : (j : ℕ) → sumOf (λ e. if shownBy cells ranking e then bitFor ranking k e else 0) (map (entry j) allRanks) ≡ (if j =? k then setOf (row cells k) else 0)
+        one j = sym (those-if (shownBy cells ranking) (bitFor ranking k) (map (entry j) allRanks)) ∙ group-bits k j ∙ here j (eqb j k) refl
 
-    pub bits-are : (k : ℕ) → k < groups → sumOf (bitFor ranking k) (those (shownBy cells ranking) (allEntries groups ranks)) ≡ setOf (row cells k)
+    pub bits-are : (k : ℕ) → k < groups → sumOf (bitFor ranking k) (those (shownBy cells ranking) (allEntries groups allRanks)) ≡ setOf (row cells k)
     bits-are k l = all-bits k ∙ sum-same (λ j. if j =? k then setOf (row cells k) else 0) (λ j. if k =? j then setOf (row cells k) else 0) groups (λ j _. turn j (eqb j k) refl) ∙ sum-here (setOf (row cells k)) k groups l
       where
         turn : (j : ℕ) (s : Bool) → eqb j k ≡ s → (if s then setOf (row cells k) else 0) ≡ (if k =? j then setOf (row cells k) else 0)
         turn j true z = rw (eq-eqb k j (sym (eqb-true j k z)))
         turn j false z = rw (ne-eqb k j (λ w. eqb-false j k z (sym w)))
 
-    pub bits-none : (k : ℕ) → groups ≤ k → sumOf (bitFor ranking k) (those (shownBy cells ranking) (allEntries groups ranks)) ≡ 0
+    pub bits-none : (k : ℕ) → groups ≤ k → sumOf (bitFor ranking k) (those (shownBy cells ranking) (allEntries groups allRanks)) ≡ 0
     bits-none k l = all-bits k ∙ sum-zero (λ j. if j =? k then setOf (row cells k) else 0) groups (λ j h. rw (ne-eqb j k (λ w. omega arith)))

@@ -11,9 +11,9 @@ use Rattle.cascade.specs.Cascade.{tiers, byTier}
 use Rattle.figures.proofs.Size.{bits-lt, bits-ones}
 use Rattle.rows.specs.Rows.{columns, row, row-at}
 use Rattle.lines.specs.Table.{setOf}
-use Rattle.lines.specs.Listing.{entry, groupIn, tierIn, exposureIn, shown, allEntries, entriesOf, Source}
+use Rattle.lines.specs.Listing.{entry, groupIn, indexIn, exposureIn, shown, allEntries, entriesOf, Source}
 use Rattle.cascade.specs.Promise.{Once}
-use Rattle.lines.specs.Promise.{Inside, allExposures}
+use Rattle.lines.specs.Promise.{EntryInside, allExposures}
 use Rattle.lines.proofs.Tries.{those-each, those-all, those-same, those-count, those-sum, each-all}
 
 -- the entry of tier t of group number k
@@ -21,7 +21,7 @@ module _ (k t : ℕ) (l : t < tiers) where
   pub group-in : groupIn (entry k t) ≡ k
   group-in = omega arith
 
-  pub tier-in : tierIn (entry k t) ≡ t
+  pub tier-in : indexIn (entry k t) ≡ t
   tier-in = omega arith
 
   pub exposure-in : (cells : List ℕ) → exposureIn cells (entry k t) ≡ byTier (row cells k) t
@@ -40,8 +40,8 @@ module _ (ranking : List ℕ) (h : All (λ t. t < tiers) ranking) where
   entries-all P k f = all-mapped P (entry k) ranking (all-map f ranking h)
 
   -- the test of a row is that of the table
-  pub shown-row : (cells : List ℕ) (k : ℕ) → All (λ e. (0 <? byTier (row cells k) (tierIn e)) ≡ shown cells e) (map (entry k) ranking)
-  shown-row cells k = entries-all (λ e. (0 <? byTier (row cells k) (tierIn e)) ≡ shown cells e) k (λ t l. rw (exposure-in k t l cells, tier-in k t l))
+  pub shown-row : (cells : List ℕ) (k : ℕ) → All (λ e. (0 <? byTier (row cells k) (indexIn e)) ≡ shown cells e) (map (entry k) ranking)
+  shown-row cells k = entries-all (λ e. (0 <? byTier (row cells k) (indexIn e)) ≡ shown cells e) k (λ t l. rw (exposure-in k t l cells, tier-in k t l))
 
   -- the groups of the entries of m groups from k on
   pub groups-in : (cells : List ℕ) (k m : ℕ) → All (λ e. (k ≤ groupIn e) × (groupIn e < k + m)) (eachOf (groupEntries cells ranking) (countFrom k m))
@@ -51,11 +51,11 @@ module _ (ranking : List ℕ) (h : All (λ t. t < tiers) ranking) where
 
   pub all-inside :
       (S : Source) (groups : ℕ) → columns * groups ≤ length (S .cells) → groups ≤ length (S .sets) → groups ≤ length (S .heads)
-      → All (Inside S) (entriesOf (S .cells) groups ranking)
+      → All (EntryInside S) (entriesOf (S .cells) groups ranking)
   all-inside S groups p q r =
-      those-all (shown (S .cells)) (Inside S) (allEntries groups ranking)
-      (each-all (Inside S) (λ j. (0 ≤ j) × (j < 0 + groups)) (λ k. map (entry k) ranking)
-      (λ j i. entries-all (Inside S) j (λ t l. record { tier = omega arith; cell = omega (arith, i .1); set = omega (arith, i .1); head = omega (arith, i .1) }))
+      those-all (shown (S .cells)) (EntryInside S) (allEntries groups ranking)
+      (each-all (EntryInside S) (λ j. (0 ≤ j) × (j < 0 + groups)) (λ k. map (entry k) ranking)
+      (λ j i. entries-all (EntryInside S) j (λ t l. record { tier = omega arith; cell = omega (arith, i .1); set = omega (arith, i .1); head = omega (arith, i .1) }))
       (countFrom 0 groups) (all-count 0 groups))
 
 pub all-long : (ranking : List ℕ) → length ranking ≡ tiers → (groups : ℕ) → length (allEntries groups ranking) ≡ tiers * groups
@@ -68,19 +68,19 @@ module _ (ranking : List ℕ) (o : Once tiers ranking) where
   set-along exposures = sym (o .once (λ t. if 0 <? byTier exposures t then 2 ^ t else 0))
 
   -- the ones of a group's set of tiers are its lines
-  pub group-ones : (exposures : List ℕ) (k : ℕ) → length (those (λ e. 0 <? byTier exposures (tierIn e)) (map (entry k) ranking)) ≡ ones (setOf exposures)
+  pub group-ones : (exposures : List ℕ) (k : ℕ) → length (those (λ e. 0 <? byTier exposures (indexIn e)) (map (entry k) ranking)) ≡ ones (setOf exposures)
   unfolding setOf
   group-ones exposures k =
-      let f : ℕ → ℕ = λ e. if 0 <? byTier exposures (tierIn e) then 1 else 0 in
+      let f : ℕ → ℕ = λ e. if 0 <? byTier exposures (indexIn e) then 1 else 0 in
       let g : ℕ → ℕ = λ t. if 0 <? byTier exposures t then 1 else 0 in
-      those-count (λ e. 0 <? byTier exposures (tierIn e)) (map (entry k) ranking)
+      those-count (λ e. 0 <? byTier exposures (indexIn e)) (map (entry k) ranking)
       ∙ sum-map f (entry k) ranking
       ∙ sum-agree (λ t. f (entry k t)) g ranking (all-map (λ t l. ap g (tier-in k t l)) ranking (o .inside))
       ∙ o .once g ∙ sym (bits-ones (λ t. 0 <? byTier exposures t) tiers)
 
   pub row-ones : (cells : List ℕ) (k : ℕ) → length (groupEntries cells ranking k) ≡ ones (setOf (row cells k))
   row-ones cells k =
-      ap length (sym (those-same (λ e. 0 <? byTier (row cells k) (tierIn e)) (shown cells) (map (entry k) ranking) (shown-row ranking (o .inside) cells k)))
+      ap length (sym (those-same (λ e. 0 <? byTier (row cells k) (indexIn e)) (shown cells) (map (entry k) ranking) (shown-row ranking (o .inside) cells k)))
       ∙ group-ones (row cells k) k
 
   pub entries-ones : (cells : List ℕ) (groups : ℕ) → length (entriesOf cells groups ranking) ≡ sum (λ k. ones (setOf (row cells k))) groups

@@ -12,7 +12,7 @@ use Rattle.cascade.specs.Cascade.{tiers, byTier}
 use Rattle.cascade.specs.Promise.{Once}
 use Rattle.rows.specs.Rows.{row}
 use Rattle.rows.proofs.Ranked.{rank-few}
-use Rattle.lines.specs.Listing.{entry, groupIn, tierIn, shown, allEntries, entriesOf, ranks, ofRank, shownBy}
+use Rattle.lines.specs.Listing.{entry, groupIn, indexIn, shown, allEntries, entriesOf, allRanks, ofRank, shownBy}
 use Rattle.lines.proofs.Entries.{group-in, tier-in, exposure-in}
 
 -- ---- lists
@@ -44,10 +44,10 @@ those-mapped test f (e ∷ es) = by (test (f e)) (those-mapped test f es)
 
 module _ (ranking : List ℕ) (o : Once tiers ranking) (n : length ranking ≡ tiers) where
   pub rank-group : (e : ℕ) → groupIn (ofRank ranking e) ≡ groupIn e
-  rank-group e = group-in (groupIn e) _ (rank-few ranking o n (tierIn e) (omega arith))
+  rank-group e = group-in (groupIn e) _ (rank-few ranking o n (indexIn e) (omega arith))
 
-  pub rank-tier : (e : ℕ) → tierIn (ofRank ranking e) ≡ getD ranking (tierIn e) 0
-  rank-tier e = tier-in (groupIn e) _ (rank-few ranking o n (tierIn e) (omega arith))
+  pub rank-tier : (e : ℕ) → indexIn (ofRank ranking e) ≡ getD ranking (indexIn e) 0
+  rank-tier e = tier-in (groupIn e) _ (rank-few ranking o n (indexIn e) (omega arith))
 
   of-entry : (k i : ℕ) → i < tiers → ofRank ranking (entry k i) ≡ entry k (getD ranking i 0)
   of-entry k i l = ap₂ (λ (j r : ℕ). entry j (getD ranking r 0)) (group-in k i l) (tier-in k i l)
@@ -56,26 +56,26 @@ module _ (ranking : List ℕ) (o : Once tiers ranking) (n : length ranking ≡ t
   pub shown-at : (cells : List ℕ) (k i : ℕ) → i < tiers → shownBy cells ranking (entry k i) ≡ (0 <? byTier (row cells k) (getD ranking i 0))
   shown-at cells k i l = ap (shown cells) (of-entry k i l) ∙ ap (λ (x : ℕ). 0 <? x) (exposure-in k (getD ranking i 0) (rank-few ranking o n i l) cells)
 
-  pub ranks-are : map (λ i. getD ranking i 0) ranks ≡ ranking
+  pub ranks-are : map (λ i. getD ranking i 0) allRanks ≡ ranking
   ranks-are =
-      let long : length (map (λ i. getD ranking i 0) ranks) ≡ tiers = length-map ranks (λ i. getD ranking i 0) ∙ length-count 0 tiers in
-      ext-getD 0 (map (λ i. getD ranking i 0) ranks) ranking (long ∙ sym n) (λ i l. count-at (λ i. getD ranking i 0) 0 tiers i (omega (arith, long)) ∙ ap (λ (j : ℕ). getD ranking j 0) (omega arith))
+      let long : length (map (λ i. getD ranking i 0) allRanks) ≡ tiers = length-map allRanks (λ i. getD ranking i 0) ∙ length-count 0 tiers in
+      ext-getD 0 (map (λ i. getD ranking i 0) allRanks) ranking (long ∙ sym n) (λ i l. count-at (λ i. getD ranking i 0) 0 tiers i (omega (arith, long)) ∙ ap (λ (j : ℕ). getD ranking j 0) (omega arith))
 
-  group-ranks : (k : ℕ) → map (ofRank ranking) (map (entry k) ranks) ≡ map (entry k) ranking
+  group-ranks : (k : ℕ) → map (ofRank ranking) (map (entry k) allRanks) ≡ map (entry k) ranking
   group-ranks k =
       let f : ℕ → ℕ = λ i. entry k (getD ranking i 0) in
-      map-both (ofRank ranking) (entry k) f ranks (all-map (λ i q. of-entry k i (omega (arith, q .1))) ranks (all-count 0 tiers))
-      ∙ sym (map-both (entry k) (λ i. getD ranking i 0) f ranks (all-map (λ i q. refl) ranks (all-count 0 tiers)))
+      map-both (ofRank ranking) (entry k) f allRanks (all-map (λ i q. of-entry k i (omega (arith, q .1))) allRanks (all-count 0 tiers))
+      ∙ sym (map-both (entry k) (λ i. getD ranking i 0) f allRanks (all-map (λ i q. refl) allRanks (all-count 0 tiers)))
       ∙ ap (map (entry k)) ranks-are
 
-  all-ranks : (groups : ℕ) → map (ofRank ranking) (allEntries groups ranks) ≡ allEntries groups ranking
+  all-ranks : (groups : ℕ) → map (ofRank ranking) (allEntries groups allRanks) ≡ allEntries groups ranking
   all-ranks groups =
-      map-each (ofRank ranking) (λ k. map (entry k) ranks) (countFrom 0 groups)
-      ∙ each-same (λ k. map (ofRank ranking) (map (entry k) ranks)) (λ k. map (entry k) ranking) (countFrom 0 groups) (all-map (λ k _. group-ranks k) (countFrom 0 groups) (all-count 0 groups))
+      map-each (ofRank ranking) (λ k. map (entry k) allRanks) (countFrom 0 groups)
+      ∙ each-same (λ k. map (ofRank ranking) (map (entry k) allRanks)) (λ k. map (entry k) ranking) (countFrom 0 groups) (all-map (λ k _. group-ranks k) (countFrom 0 groups) (all-count 0 groups))
 
   -- those that have a line
-  pub entries-are : (cells : List ℕ) (groups : ℕ) → map (ofRank ranking) (those (shownBy cells ranking) (allEntries groups ranks)) ≡ entriesOf cells groups ranking
-  entries-are cells groups = those-mapped (shown cells) (ofRank ranking) (allEntries groups ranks) ∙ ap (those (shown cells)) (all-ranks groups)
+  pub entries-are : (cells : List ℕ) (groups : ℕ) → map (ofRank ranking) (those (shownBy cells ranking) (allEntries groups allRanks)) ≡ entriesOf cells groups ranking
+  entries-are cells groups = those-mapped (shown cells) (ofRank ranking) (allEntries groups allRanks) ∙ ap (those (shown cells)) (all-ranks groups)
 
-  pub entries-many : (cells : List ℕ) (groups : ℕ) → length (those (shownBy cells ranking) (allEntries groups ranks)) ≡ length (entriesOf cells groups ranking)
-  entries-many cells groups = sym (length-map (those (shownBy cells ranking) (allEntries groups ranks)) (ofRank ranking)) ∙ ap length (entries-are cells groups)
+  pub entries-many : (cells : List ℕ) (groups : ℕ) → length (those (shownBy cells ranking) (allEntries groups allRanks)) ≡ length (entriesOf cells groups ranking)
+  entries-many cells groups = sym (length-map (those (shownBy cells ranking) (allEntries groups allRanks)) (ofRank ranking)) ∙ ap length (entries-are cells groups)

@@ -16,8 +16,8 @@ use Rattle.cascade.specs.Cascade.{tiers}
 use Rattle.cascade.proofs.Lists.{all-at}
 use Rattle.rows.specs.Rows.{row}
 use Rattle.lines.specs.Table.{setOf}
-use Rattle.lines.specs.Listing.{entry, groupIn, allEntries, entriesOf, ranks, shownBy, bitFor, tried}
-use Rattle.lines.specs.Promise.{Listable, Adds, Added, Listed}
+use Rattle.lines.specs.Listing.{entry, groupIn, allEntries, entriesOf, allRanks, shownBy, bitFor, tried}
+use Rattle.lines.specs.Promise.{Listable, Addable, Added, Listed}
 use Rattle.lines.proofs.Tries.{those-all, those-sum, each-all, tried-long, tried-first}
 use Rattle.lines.proofs.Entries.{group-in, entries-all, all-long, entries-ones, entries-few}
 use Rattle.lines.proofs.Ranks.{entries-many}
@@ -34,32 +34,32 @@ either {P} k n below past = by (leb n k) refl
     by false z = below (leb-false n k z)
 
 -- the entries of a number of groups are of these
-all-groups : (groups : ℕ) → All (λ e. groupIn e < groups) (allEntries groups ranks)
+all-groups : (groups : ℕ) → All (λ e. groupIn e < groups) (allEntries groups allRanks)
 all-groups groups =
-    each-all (λ e. groupIn e < groups) (λ j. (0 ≤ j) × (j < 0 + groups)) (λ k. map (entry k) ranks)
-    (λ j i. entries-all ranks (all-map (λ t q. omega (arith, q .1)) ranks (all-count 0 tiers)) (λ e. groupIn e < groups) j (λ t l. omega (arith, i .1, group-in j t l))) (countFrom 0 groups) (all-count 0 groups)
+    each-all (λ e. groupIn e < groups) (λ j. (0 ≤ j) × (j < 0 + groups)) (λ k. map (entry k) allRanks)
+    (λ j i. entries-all allRanks (all-map (λ t q. omega (arith, q .1)) allRanks (all-count 0 tiers)) (λ e. groupIn e < groups) j (λ t l. omega (arith, i .1, group-in j t l))) (countFrom 0 groups) (all-count 0 groups)
 
 module _ {cells : List ℕ} {groups : ℕ} {ranking sets list : List ℕ} (a : Listable cells groups ranking sets list) (long : length ranking ≡ tiers) where
   abbrev shows : ℕ → Bool
   shows = shownBy cells ranking
 
   abbrev shownEntries : List ℕ
-  shownEntries = those shows (allEntries groups ranks)
+  shownEntries = those shows (allEntries groups allRanks)
 
-  all : length (allEntries groups ranks) ≡ tiers * groups
-  all = all-long ranks (length-count 0 tiers) groups
+  all : length (allEntries groups allRanks) ≡ tiers * groups
+  all = all-long allRanks (length-count 0 tiers) groups
 
   few : length shownEntries ≤ tiers * groups
   few = omega (arith, entries-many ranking (a .ranks) long cells groups, entries-few ranking (a .ranks) cells groups long)
 
-  module _ {end : ℕ} {listed : List ℕ} (n : end ≡ length shownEntries) (q : listed ≡ tried shows 0 (allEntries groups ranks) list) where
+  module _ {end : ℕ} {listed : List ℕ} (n : end ≡ length shownEntries) (q : listed ≡ tried shows 0 (allEntries groups allRanks) list) where
     pub listed-size : length listed ≡ length list
-    listed-size = ap length q ∙ tried-long shows (allEntries groups ranks) 0 list
+    listed-size = ap length q ∙ tried-long shows (allEntries groups allRanks) 0 list
 
     pub entries-first : take end listed ≡ shownEntries
     entries-first =
         let z : 0 + length shownEntries ≡ end = omega (arith, n) in
-        ap (take end) q ∙ ap (λ (k : ℕ). take k (tried shows 0 (allEntries groups ranks) list)) (sym z) ∙ tried-first shows (allEntries groups ranks) 0 list (omega (arith, all, a .room))
+        ap (take end) q ∙ ap (λ (k : ℕ). take k (tried shows 0 (allEntries groups allRanks) list)) (sym z) ∙ tried-first shows (allEntries groups allRanks) 0 list (omega (arith, all, a .room))
 
     bits : (k : ℕ) → k < groups → sumOf (bitFor ranking k) (take end listed) ≡ setOf (row cells k)
     bits k l = rw entries-first (bits-are ranking (a .ranks) long cells groups k l)
@@ -67,11 +67,11 @@ module _ {cells : List ℕ} {groups : ℕ} {ranking sets list : List ℕ} (a : L
     no-bits : (k : ℕ) → groups ≤ k → sumOf (bitFor ranking k) (take end listed) ≡ 0
     no-bits k l = rw entries-first (bits-none ranking (a .ranks) long cells groups k l)
 
-    pub adds : Adds listed end ranking sets
+    pub adds : Addable listed end ranking sets
     adds = record {
       ranks = a .ranks;
       long = omega (arith, listed-size, n, few, a .room);
-      inside = λ i l. let at = all-at (λ e. groupIn e < groups) shownEntries (those-all shows (λ e. groupIn e < groups) (allEntries groups ranks) (all-groups groups)) i (omega (arith, n)) in
+      inside = λ i l. let at = all-at (λ e. groupIn e < groups) shownEntries (those-all shows (λ e. groupIn e < groups) (allEntries groups allRanks) (all-groups groups)) i (omega (arith, n)) in
           omega (arith, a .places, rw (← entries-first, getD-take end listed i 0 l) at at);
       fit = λ k. either k groups (λ l. omega (arith, bits k l, a .empty k, set-small (row cells k))) (λ l. omega (arith, no-bits k l, a .empty k));
     }

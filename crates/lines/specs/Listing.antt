@@ -1,8 +1,8 @@
 -- The lines of a table by one list of entries, one to each line, groups by number and tiers by rank.
---   entry groupIn tierIn   the entry of a group and a tier, and these of an entry
+--   entry groupIn indexIn  the entry of a group and a tier, and these of an entry; by rank, the rank in the place of the tier
 --   exposureIn shown       the exposure of an entry, and whether it has a line
 --   allEntries entriesOf   the entries of all tiers of the groups, and those that have a line
---   ranks ofRank shownBy   entries by rank in the place of the tier; the entry of the tier of that rank, and whether that has a line
+--   allRanks ofRank shownBy   entries by rank; the entry of the tier of that rank, and whether that has a line
 --   bitFor                 what an entry by rank adds to the set of a group
 --   tried                  a list, where entries are put at the place reached
 --   Source                 what the figures of a line are taken from
@@ -25,11 +25,11 @@ entry k t = tiers * k + t
 abbrev pub groupIn : ℕ → ℕ
 groupIn e = e / tiers
 
-abbrev pub tierIn : ℕ → ℕ
-tierIn e = e % tiers
+abbrev pub indexIn : ℕ → ℕ
+indexIn e = e % tiers
 
 abbrev pub exposureIn : List ℕ → ℕ → ℕ
-exposureIn cells e = getD cells (columns * groupIn e + tierIn e) 0
+exposureIn cells e = getD cells (columns * groupIn e + indexIn e) 0
 
 -- "so exposure above 0 only"
 abbrev pub shown : List ℕ → ℕ → Bool
@@ -43,19 +43,19 @@ allEntries groups ranking = eachOf (λ k. map (entry k) ranking) (countFrom 0 gr
 abbrev pub entriesOf : List ℕ → ℕ → List ℕ → List ℕ
 entriesOf cells groups ranking = those (shown cells) (allEntries groups ranking)
 
--- all ranks; a list of entries by rank has `entry k i` for the tier of rank i of group number k
-abbrev pub ranks : List ℕ
-ranks = countFrom 0 tiers
+-- every rank; a list of entries by rank has `entry k i` for the tier of rank i of group number k
+abbrev pub allRanks : List ℕ
+allRanks = countFrom 0 tiers
 
 abbrev pub ofRank : List ℕ → ℕ → ℕ
-ofRank ranking e = entry (groupIn e) (getD ranking (tierIn e) 0)
+ofRank ranking e = entry (groupIn e) (getD ranking (indexIn e) 0)
 
 abbrev pub shownBy : List ℕ → List ℕ → ℕ → Bool
 shownBy cells ranking e = shown cells (ofRank ranking e)
 
 -- its tier's bit, where it is of group number k: "bit n is tier n"
 abbrev pub bitFor : List ℕ → ℕ → ℕ → ℕ
-bitFor ranking k e = if groupIn e =? k then 2 ^ getD ranking (tierIn e) 0 else 0
+bitFor ranking k e = if groupIn e =? k then 2 ^ getD ranking (indexIn e) 0 else 0
 
 -- each entry is put at the place reached, which moves on behind those that pass the test; the others are overwritten
 unfoldable pub tried : (ℕ → Bool) → ℕ → List ℕ → List ℕ → List ℕ
@@ -78,12 +78,12 @@ unfoldable pub entryLine : Source → ℕ → ℕ → Line
 entryLine S s e =
     record {
       top = getD (S .heads) (groupIn e) 0;
-      tier = tierIn e;
+      tier = indexIn e;
       tiers = getD (S .sets) (groupIn e) 0;
       exposure = exposureIn (S .cells) e;
-      limit = byTier (S .limits) (tierIn e);
-      left = leftAt (byTier (S .limits)) s (tierIn e);
-      excess = excessAt (byTier (S .limits)) (λ _. exposureIn (S .cells) e) s (tierIn e);
+      limit = byTier (S .limits) (indexIn e);
+      left = leftAt (byTier (S .limits)) s (indexIn e);
+      excess = excessAt (byTier (S .limits)) (λ _. exposureIn (S .cells) e) s (indexIn e);
     }
 
 -- what stands before an entry, where s stands after one of group `last`: "Per group", "Standing starts at 0"
@@ -95,7 +95,7 @@ unfoldable pub linesAlong : Source → ℕ → ℕ → List ℕ → List Line
 linesAlong S last s [] = []
 linesAlong S last s (e ∷ es) =
     entryLine S (before last s e) e
-    ∷ linesAlong S (groupIn e) (next (byTier (S .limits)) (λ _. exposureIn (S .cells) e) (before last s e) (tierIn e)) es
+    ∷ linesAlong S (groupIn e) (next (byTier (S .limits)) (λ _. exposureIn (S .cells) e) (before last s e) (indexIn e)) es
 
 -- no group has this number
 abbrev pub noGroup : ℕ

@@ -1,14 +1,14 @@
 -- What `list_lines` and `writing::put_report` start from and promise.
---   Groups         what the entries of groups are listed from
---   Adds Added     entries whose bits can be added to the sets of their groups, and are
+--   ListRoom       what the entries of groups are listed from
+--   Addable Added  entries whose bits can be added to the sets of their groups, and are
 --   Listable       what a listing starts from
 --   Listed         the number of lines, the sets of the groups' tiers, and the list of entries
 --   allExposures   all exposures of the groups in the tiers
---   Inside         an entry that a list may have
+--   EntryInside    an entry that a list may have
 --   Entries        a list of entries whose lines can be put
 --   Table          a table that is listed
---   Ready          what a report is put from
---   Reported       the report of a table is put
+--   Writable       what a report is put from
+--   ReportPut      the report of a table is put
 use mathlib.Core.Bool.{Bool}
 use mathlib.Core.Path.{_≡_}
 use mathlib.Core.List.{List, _++_, map}
@@ -23,17 +23,17 @@ use Rattle.figures.specs.declared.Figures.{Figures}
 use Rattle.figures.specs.Report.{headSize, lineSize, linesOf, report}
 use Rattle.rows.specs.Rows.{mostGroups, columns, row}
 use Rattle.lines.specs.Table.{setOf, Heads, tableFund}
-use Rattle.lines.specs.Listing.{groupIn, tierIn, exposureIn, allEntries, entriesOf, ranks, shownBy, bitFor, tried, Source, entriesIn}
+use Rattle.lines.specs.Listing.{groupIn, indexIn, exposureIn, allEntries, entriesOf, allRanks, shownBy, bitFor, tried, Source, entriesIn}
 
 -- a row to each group, and room for an entry to each tier
-pub record Groups (cells : List ℕ) (groups : ℕ) (ranking list : List ℕ) : Type 0 where
+pub record ListRoom (cells : List ℕ) (groups : ℕ) (ranking list : List ℕ) : Type 0 where
   pub few : groups ≤ mostGroups
   pub rows : columns * groups ≤ length cells
   pub room : tiers * groups ≤ length list
   pub ranks : Once tiers ranking
 
 -- the first n entries of a list by rank, each of a group that has a set, and sets of 16 bits with all their bits added
-pub record Adds (list : List ℕ) (n : ℕ) (ranking sets : List ℕ) : Type 0 where
+pub record Addable (list : List ℕ) (n : ℕ) (ranking sets : List ℕ) : Type 0 where
   pub ranks : Once tiers ranking
   pub long : n ≤ length list
   pub inside : (i : ℕ) → i < n → groupIn (getD list i 0) < length sets
@@ -59,15 +59,15 @@ pub record Listed (cells : List ℕ) (groups : ℕ) (ranking sets₀ sets list�
   pub count : n ≡ length (entriesOf cells groups ranking)
   pub few : n ≤ tiers * groups
   pub tierSets : sets ≡ placed sets₀ 0 (map (λ k. setOf (row cells k)) (countFrom 0 groups))
-  pub entries : list ≡ tried (shownBy cells ranking) 0 (allEntries groups ranks) list₀
+  pub entries : list ≡ tried (shownBy cells ranking) 0 (allEntries groups allRanks) list₀
 
 -- all exposures of the groups in the tiers
 abbrev pub allExposures : List ℕ → ℕ → ℕ
 allExposures cells groups = sum (λ k. sum (byTier (row cells k)) tiers) groups
 
 -- an entry of a group and a tier of the table
-pub record Inside (S : Source) (e : ℕ) : Type 0 where
-  pub tier : tierIn e < tiers
+pub record EntryInside (S : Source) (e : ℕ) : Type 0 where
+  pub tier : indexIn e < tiers
   pub cell : columns * (groupIn e + 1) ≤ length (S .cells)
   pub set : groupIn e < length (S .sets)
   pub head : groupIn e < length (S .heads)
@@ -76,7 +76,7 @@ pub record Inside (S : Source) (e : ℕ) : Type 0 where
 pub record Entries (S : Source) (list : List ℕ) (n room : ℕ) : Type 0 where
   pub ranked : Once tiers (S .ranking)
   pub long : n ≤ length list
-  pub inside : All (Inside S) (entriesIn S list n)
+  pub inside : All (EntryInside S) (entriesIn S list n)
   pub amounts : sumOf (exposureIn (S .cells)) (entriesIn S list n) ≤ 900 * M
   pub fits : headSize + lineSize * n ≤ room
 
@@ -95,7 +95,7 @@ pub record Table (order : ℕ → ℕ → Bool) (S : Source) (list : List ℕ) (
   pub amounts : allExposures (S .cells) groups ≤ 900 * M
 
 -- a table, the number of its lines, figures whose charge fits, and bytes enough
-pub record Ready (S : Source) (list : List ℕ) (n : ℕ) (figures : Figures) (room : ℕ) : Type 0 where
+pub record Writable (S : Source) (list : List ℕ) (n : ℕ) (figures : Figures) (room : ℕ) : Type 0 where
   pub order : ℕ → ℕ → Bool
   pub groups : ℕ
   pub places : ℕ
@@ -105,7 +105,7 @@ pub record Ready (S : Source) (list : List ℕ) (n : ℕ) (figures : Figures) (r
   pub fits : headSize + lineSize * n ≤ room
 
 -- the report of the table, whatever the order is and the places that the top places are among; no byte behind it changes
-abbrev pub Reported : Source → (list : List ℕ) → (n : ℕ) → Figures → (before after : List ℕ) → Type 0
-Reported S list n figures before after =
+abbrev pub ReportPut : Source → (list : List ℕ) → (n : ℕ) → Figures → (before after : List ℕ) → Type 0
+ReportPut S list n figures before after =
     (order : ℕ → ℕ → Bool) (places groups : ℕ) → Heads (S .heads) places groups → Table order S list groups n
     → after ≡ report (tableFund order (S .limits) (S .cells) (S .heads) places groups figures) ++ drop (length (report (tableFund order (S .limits) (S .cells) (S .heads) places groups figures))) before

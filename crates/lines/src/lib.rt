@@ -10,8 +10,8 @@ ghost use Rattle.words.specs.Words.{sum, those};
 ghost use Rattle.cascade.specs.Cascade.{tiers};
 ghost use Rattle.cascade.specs.Promise.{Once};
 ghost use Rattle.rows.specs.Rows.{mostGroups, columns};
-ghost use Rattle.lines.specs.Listing.{entry, allEntries, ranks, shownBy, tried};
-ghost use Rattle.lines.specs.Promise.{Groups, Adds, Added, Listable, Listed};
+ghost use Rattle.lines.specs.Listing.{entry, allEntries, allRanks, shownBy, tried};
+ghost use Rattle.lines.specs.Promise.{ListRoom, Addable, Added, Listable, Listed};
 
 // The entries of group number k's lines (TIERS * k and the rank), put into list from `at` on; the place behind them.
 // Every rank is put at the place reached, which moves on where the exposure is above 0: no branch on an exposure.
@@ -23,7 +23,7 @@ fn list_group(
     ranking: [usize; TIERS],
 ) -> usize
     requires { ⌜ (k < mostGroups) × (columns * (k + 1) ≤ length (now cells)) × (at + tiers ≤ length (now list)) × Once tiers ranking ⌝ }
-    ensures { λ r. ⌜ (r ≡ at + length (those (shownBy (now (cells .entry)) ranking) (map (entry k) ranks))) × (now (list .exit) ≡ tried (shownBy (now (cells .entry)) ranking) at (map (entry k) ranks) (now (list .entry))) ⌝ }
+    ensures { λ r. ⌜ (r ≡ at + length (those (shownBy (now (cells .entry)) ranking) (map (entry k) allRanks))) × (now (list .exit) ≡ tried (shownBy (now (cells .entry)) ranking) at (map (entry k) allRanks) (now (list .entry))) ⌝ }
 {
     let start = COLUMNS * k;
     let mut place = at;
@@ -31,7 +31,7 @@ fn list_group(
     while i < TIERS {
         let t = ranking[i];
         list[place] = (TIERS * k + i) as u16;
-        place += choice::one(0 < cells[start + t]) as usize;
+        place += choice::one_if(0 < cells[start + t]) as usize;
         i += 1;
     }
     place
@@ -39,8 +39,8 @@ fn list_group(
 
 // The entries of all groups' lines, one group after the other; the place behind them.
 fn list_groups(cells: &[u64], groups: usize, ranking: [usize; TIERS], list: &mut [u16]) -> usize
-    requires { ⌜ Groups (now cells) groups ranking (now list) ⌝ }
-    ensures { λ r. ⌜ (r ≡ length (those (shownBy (now (cells .entry)) ranking) (allEntries groups ranks))) × (now (list .exit) ≡ tried (shownBy (now (cells .entry)) ranking) 0 (allEntries groups ranks) (now (list .entry))) ⌝ }
+    requires { ⌜ ListRoom (now cells) groups ranking (now list) ⌝ }
+    ensures { λ r. ⌜ (r ≡ length (those (shownBy (now (cells .entry)) ranking) (allEntries groups allRanks))) × (now (list .exit) ≡ tried (shownBy (now (cells .entry)) ranking) 0 (allEntries groups allRanks) (now (list .entry))) ⌝ }
 {
     let mut place: usize = 0;
     let mut k = 0;
@@ -53,7 +53,7 @@ fn list_groups(cells: &[u64], groups: usize, ranking: [usize; TIERS], list: &mut
 
 // The bit of each entry's tier added to the set of its group.
 fn add_bits(list: &[u16], lines: usize, ranking: [usize; TIERS], sets: &mut [u16])
-    requires { ⌜ Adds (now list) lines ranking (now sets) ⌝ }
+    requires { ⌜ Addable (now list) lines ranking (now sets) ⌝ }
     ensures { λ _. ⌜ Added (now (list .entry)) lines ranking (now (sets .entry)) (now (sets .exit)) ⌝ }
 {
     let mut i = 0;

@@ -12,7 +12,7 @@ use Rattle.assets.specs.declared.Values.{Values}
 use Rattle.assets.specs.Assets as assets
 use Rattle.assets.specs.Shares.{restOf}
 use Rattle.assets.specs.Halves.{Halved}
-use Rattle.covering.specs.Pass.{Known, Ready, Covers}
+use Rattle.covering.specs.Pass.{Known, Coverable, Covers}
 use Rattle.covering.specs.Start.{ready}
 use Rattle.cells.specs.declared.Sums.{Sums}
 use Rattle.cells.specs.Cells.{Zeros, Placed, Tabled, Posted}
@@ -23,7 +23,7 @@ pub known : {b words terms rows : List ℕ} → Parties b words terms rows → K
 known p = record { size = p .terms-size; each = p .term }
 
 module _ {b starts₀ draws₀ halves₀ rests₀ places₀ covered₀ : List ℕ} (l : Lent b starts₀ draws₀ halves₀ rests₀ places₀ covered₀) where
-  pub lent : assets.Lent b starts₀ draws₀ halves₀ rests₀ places₀
+  pub lent : assets.AssetRoom b starts₀ draws₀ halves₀ rests₀ places₀
   lent =
       record {
         of-starts = l .of-starts;
@@ -35,7 +35,7 @@ module _ {b starts₀ draws₀ halves₀ rests₀ places₀ covered₀ : List �
       }
 
   module _ (acc : Accepted b) {starts draws sums rests places : List ℕ} {v : Values} (q : assets.Valued b starts₀ draws₀ halves₀ rests₀ places₀ starts draws sums rests places v) where
-    pub pass-ready : {half : List ℕ} → Halved sums half → Ready b starts draws half rests
+    pub pass-ready : {half : List ℕ} → Halved sums half → Coverable b starts draws half rests
     pass-ready h =
         rw (q .marks, q .on, q .there)
         (ready b starts₀ draws₀ halves₀ rests₀ acc (l .of-starts) (l .of-draws) (l .of-halves) (l .of-rests) (l .unmarked) (l .undrawn) (rw (q .nets) at h))

@@ -20,7 +20,7 @@ long : (n : ℕ) → length (replicate {A = ℕ} n 0) ≡ n
 long n = length-replicate {A = ℕ} n 0
 
 -- for the pass over the counterparties, of which there are at most n
-pub zero-parties : (c n : ℕ) → c ≤ n → parties.Ready c (replicate (n + 1) 0) (replicate (n + 1) 0) (replicate (n + 1) 0) (replicate (n + 1) 0) (replicate (n + 1) 0)
+pub zero-parties : (c n : ℕ) → c ≤ n → parties.Fillable c (replicate (n + 1) 0) (replicate (n + 1) 0) (replicate (n + 1) 0) (replicate (n + 1) 0) (replicate (n + 1) 0)
 zero-parties c n h =
     let l : c < length (replicate {A = ℕ} (n + 1) 0) = omega (arith, long (n + 1)) in
     record { words-size = l; terms-size = l; tops-blank = record { size = l; zeros = λ p _. at-zeros (n + 1) p }; rows-size = l; heads-size = l }

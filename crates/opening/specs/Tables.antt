@@ -1,6 +1,6 @@
 -- The sizes of the tables that an entry makes.
 --   smallSize mediumSize fewGroups   for how many counterparties and groups they have room
---   Within    a book that has room in tables of a size
+--   SizedWithin    a book that has room in tables of a size
 --   Prepared  a schedule and a book, and the tables before the passes over assets and mitigants
 use mathlib.Core.List.{List}
 use Prim.Native.Nat.{ℕ, _*_, _≤_}
@@ -18,7 +18,7 @@ abbrev pub fewGroups : ℕ
 fewGroups = 64
 
 -- so many counterparties, and four times as many assets and mitigants
-pub record Within (size : ℕ) (b : List ℕ) : Type 0 where
+pub record SizedWithin (size : ℕ) (b : List ℕ) : Type 0 where
   pub counterparties : C b ≤ size
   pub assets : N b ≤ 4 * size
   pub mitigants : K b ≤ 4 * size

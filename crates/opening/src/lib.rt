@@ -11,7 +11,7 @@ ghost use Rattle.cells.specs.Cells.{Zeros};
 ghost use Rattle.fund.specs.Fund.{Passed};
 ghost use Rattle.report.specs.Tables.{Room};
 ghost use Rattle.wanted.specs.Wanted.{Promised};
-ghost use Rattle.opening.specs.Tables.{Within, Prepared, smallSize, mediumSize, fewGroups};
+ghost use Rattle.opening.specs.Tables.{SizedWithin, Prepared, smallSize, mediumSize, fewGroups};
 
 // Tables for books of three sizes: zeroing the largest takes longer than a small book. `FEW` groups are a size of their own among the largest books.
 const SMALL: usize = 16;
@@ -93,7 +93,7 @@ fn small(
     asked: &[u8],
     lent: &mut [u8],
 ) -> Answer
-    requires { ⌜ (Passed (now schedule) (now book)) × (c ≡ C (now book)) × (Within smallSize (now book)) ⌝ }
+    requires { ⌜ (Passed (now schedule) (now book)) × (c ≡ C (now book)) × (SizedWithin smallSize (now book)) ⌝ }
     ensures { λ r. ⌜ Promised wanted (now (schedule .entry)) (now (book .entry)) (now (asked .entry)) (now (lent .entry)) (now (lent .exit)) r ⌝ }
 {
     let mut words = [0u64; SMALL + 1];
@@ -151,7 +151,7 @@ fn medium(
     asked: &[u8],
     lent: &mut [u8],
 ) -> Answer
-    requires { ⌜ (Passed (now schedule) (now book)) × (c ≡ C (now book)) × (Within mediumSize (now book)) ⌝ }
+    requires { ⌜ (Passed (now schedule) (now book)) × (c ≡ C (now book)) × (SizedWithin mediumSize (now book)) ⌝ }
     ensures { λ r. ⌜ Promised wanted (now (schedule .entry)) (now (book .entry)) (now (asked .entry)) (now (lent .entry)) (now (lent .exit)) r ⌝ }
 {
     let mut words = [0u64; MEDIUM + 1];

@@ -18,7 +18,7 @@ use Rattle.book.specs.Accepted.{Accepted}
 use Rattle.groups.specs.TableLaws.{parent-stored, top-root, top-up}
 use Rattle.rows.specs.Rows.{columns}
 use Rattle.columns.specs.Column.{wordOf, termsOf}
-use Rattle.parties.specs.Rows.{topsTo, rowOf, headed, wordsOf, termsAt, Ready, Filled}
+use Rattle.parties.specs.Rows.{topsTo, rowOf, headed, wordsOf, termsFor, Fillable, Filled}
 use Rattle.parties.specs.RowLaws.{top-top, tops-le, tops-next, same-group, headed-next}
 
 pub record Filling (b : List ℕ) (c : ℕ) (words₀ terms₀ rows₀ heads₀ words terms rows heads : List ℕ) (groups place : ℕ) : Type 0 where
@@ -30,7 +30,7 @@ pub record Filling (b : List ℕ) (c : ℕ) (words₀ terms₀ rows₀ heads₀ 
   pub heads-same : length heads ≡ length heads₀
   pub few : groups < place
   pub of-words : words ≡ filled (wordsOf b) (place - 1) words₀
-  pub of-terms : terms ≡ filled (termsAt b) (place - 1) terms₀
+  pub of-terms : terms ≡ filled (termsFor b) (place - 1) terms₀
   pub of-rows : rows ≡ filled (rowOf b) (place - 1) rows₀
   pub of-heads : heads ≡ headed b (place - 1) heads₀
   pub count : groups ≡ topsTo b (place - 1)
@@ -46,7 +46,7 @@ filling-start b c words terms rows heads = record {
   heads-same = refl;
   few = omega arith;
   of-words = filled-none (wordsOf b) words;
-  of-terms = filled-none (termsAt b) terms;
+  of-terms = filled-none (termsFor b) terms;
   of-rows = filled-none (rowOf b) rows;
   of-heads = refl;
   count = refl;
@@ -54,7 +54,7 @@ filling-start b c words terms rows heads = record {
 
 module _ {b : List ℕ} {c : ℕ} {words₀ terms₀ tops₀ rows₀ heads₀ words terms rows heads : List ℕ} {groups place : ℕ}
     (k : Filling b c words₀ terms₀ rows₀ heads₀ words terms rows heads groups place)
-    (acc : Accepted b) (ec : c ≡ C b) (ready : Ready c words₀ terms₀ tops₀ rows₀ heads₀) (h : place ≤ c) where
+    (acc : Accepted b) (ec : c ≡ C b) (ready : Fillable c words₀ terms₀ tops₀ rows₀ heads₀) (h : place ≤ c) where
   parent-below : counterpartyAt b place .parent < place
   parent-below = acc .parent place (k .started) (omega arith)
 
@@ -116,7 +116,7 @@ module _ {b : List ℕ} {c : ℕ} {words₀ terms₀ tops₀ rows₀ heads₀ wo
           heads-same = rw length-set (k .heads-same);
           few = omega (arith, count-is, tops-le b place);
           of-words = rw d (filled-next (wordsOf b) words₀ (k .started) (k .of-words) (e1 ∙ ap wordOf ew));
-          of-terms = rw d (filled-next (termsAt b) terms₀ (k .started) (k .of-terms) (e2 ∙ ap termsOf ew));
+          of-terms = rw d (filled-next (termsFor b) terms₀ (k .started) (k .of-terms) (e2 ∙ ap termsOf ew));
           of-rows = rw d (filled-next (rowOf b) rows₀ (k .started) (k .of-rows) row-is);
           of-heads = rw (d, k .count) (headed-next b place heads₀ (k .started) (k .of-heads));
           count = rw d count-is;

@@ -25,7 +25,7 @@ use Rattle.book.specs.Records.{C, counterpartyAt}
 use Rattle.book.specs.Book.{parentOf, topIn, topOf}
 use Rattle.book.specs.TopLaws.{parent-lower, top-step, top-le, top-pos}
 use Rattle.rows.specs.Rows.{columns}
-use Rattle.parties.specs.Rows.{topsTo, rowOf, headed, wordsOf, termsAt, Parties, Ready, Filled}
+use Rattle.parties.specs.Rows.{topsTo, rowOf, headed, wordsOf, termsFor, Parties, Fillable, Filled}
 
 -- ---- topmost parents
 
@@ -166,12 +166,12 @@ module _ (b t₀ : List ℕ) where
 
 -- ---- the tables
 
-pub parties-of : {b words₀ terms₀ tops₀ rows₀ heads₀ words terms tops rows heads : List ℕ} {groups : ℕ} → Ready (C b) words₀ terms₀ tops₀ rows₀ heads₀ → Filled b (C b) words₀ terms₀ tops₀ rows₀ heads₀ words terms tops rows heads groups → Parties b words terms rows
+pub parties-of : {b words₀ terms₀ tops₀ rows₀ heads₀ words terms tops rows heads : List ℕ} {groups : ℕ} → Fillable (C b) words₀ terms₀ tops₀ rows₀ heads₀ → Filled b (C b) words₀ terms₀ tops₀ rows₀ heads₀ words terms tops rows heads groups → Parties b words terms rows
 parties-of {b} {words₀} {terms₀} {tops₀} {rows₀} r f = record {
   words-size = rw (f .of-words, filled-length) (r .words-size);
   terms-size = rw (f .of-terms, filled-length) (r .terms-size);
   rows-size = rw (f .of-rows, filled-length) (r .rows-size);
   word = λ p l h. rw (f .of-words) (filled-at (wordsOf b) (C b) words₀ (r .words-size) p l h);
-  term = λ p l h. rw (f .of-terms) (filled-at (termsAt b) (C b) terms₀ (r .terms-size) p l h);
+  term = λ p l h. rw (f .of-terms) (filled-at (termsFor b) (C b) terms₀ (r .terms-size) p l h);
   row = λ p l h. rw (f .of-rows) (filled-at (rowOf b) (C b) rows₀ (r .rows-size) p l h);
 }

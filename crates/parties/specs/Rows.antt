@@ -3,7 +3,7 @@
 --   rowOf      where the row of a counterparty's group starts in a table of cells
 --   headed     a table with the topmost parents by their groups' numbers
 --   Parties    what the tables hold, place by place
---   Ready      tables that the pass can fill
+--   Fillable      tables that the pass can fill
 --   Filled     what it leaves in them
 use mathlib.Core.List.{List}
 use mathlib.Core.Path.{_≡_}
@@ -32,8 +32,8 @@ headed b (suc n) t = set (headed b n t) (topsTo b n) (suc n)
 abbrev pub wordsOf : List ℕ → ℕ → ℕ
 wordsOf b place = wordOf (counterpartyAt b place)
 
-abbrev pub termsAt : List ℕ → ℕ → ℕ
-termsAt b place = termsOf (counterpartyAt b place)
+abbrev pub termsFor : List ℕ → ℕ → ℕ
+termsFor b place = termsOf (counterpartyAt b place)
 
 -- what each counterparty's exposures need: both numbers and the row of its group
 pub record Parties (b words terms rows : List ℕ) : Type 0 where
@@ -41,11 +41,11 @@ pub record Parties (b words terms rows : List ℕ) : Type 0 where
   pub terms-size : C b < length terms
   pub rows-size : C b < length rows
   pub word : (p : ℕ) → 0 < p → p ≤ C b → getD words p 0 ≡ wordsOf b p
-  pub term : (p : ℕ) → 0 < p → p ≤ C b → getD terms p 0 ≡ termsAt b p
+  pub term : (p : ℕ) → 0 < p → p ≤ C b → getD terms p 0 ≡ termsFor b p
   pub row : (p : ℕ) → 0 < p → p ≤ C b → getD rows p 0 ≡ rowOf b p
 
 -- room for places 1 to c, and no topmost parent found
-pub record Ready (c : ℕ) (words terms tops rows heads : List ℕ) : Type 0 where
+pub record Fillable (c : ℕ) (words terms tops rows heads : List ℕ) : Type 0 where
   pub words-size : c < length words
   pub terms-size : c < length terms
   pub tops-blank : Blank c tops
@@ -55,7 +55,7 @@ pub record Ready (c : ℕ) (words terms tops rows heads : List ℕ) : Type 0 whe
 -- the tables filled at the places 1 to `known`, and the number of groups
 pub record Filled (b : List ℕ) (known : ℕ) (words₀ terms₀ tops₀ rows₀ heads₀ words terms tops rows heads : List ℕ) (groups : ℕ) : Type 0 where
   pub of-words : words ≡ filled (wordsOf b) known words₀
-  pub of-terms : terms ≡ filled (termsAt b) known terms₀
+  pub of-terms : terms ≡ filled (termsFor b) known terms₀
   pub of-tops : tops ≡ filled (topOf (counterpartyAt b)) known tops₀
   pub of-rows : rows ≡ filled (rowOf b) known rows₀
   pub of-heads : heads ≡ headed b known heads₀

@@ -3,7 +3,7 @@ use rows::COLUMNS;
 ghost use mathlib.Core.Path.{_≡_};
 ghost use Rattle.book.specs.Records.{C};
 ghost use Rattle.book.specs.Accepted.{Accepted};
-ghost use Rattle.parties.specs.Rows.{Ready, Filled};
+ghost use Rattle.parties.specs.Rows.{Fillable, Filled};
 
 // Both numbers of each counterparty, its topmost parent and the row of its group, at its place; and the topmost parents in `heads`, by the
 // numbers of their groups. Gives how many groups there are; from that number on, what stands in `heads` says nothing.
@@ -16,7 +16,7 @@ pub fn fill(
     rows: &mut [u16],
     heads: &mut [u16],
 ) -> usize
-    requires { ⌜ (Accepted (now b)) × (c ≡ C (now b)) × (Ready c (now words) (now terms) (now tops) (now rows) (now heads)) ⌝ }
+    requires { ⌜ (Accepted (now b)) × (c ≡ C (now b)) × (Fillable c (now words) (now terms) (now tops) (now rows) (now heads)) ⌝ }
     ensures { λ r. ⌜ Filled (now (b .entry)) c (now (words .entry)) (now (terms .entry)) (now (tops .entry)) (now (rows .entry)) (now (heads .entry)) (now (words .exit)) (now (terms .exit)) (now (tops .exit)) (now (rows .exit)) (now (heads .exit)) r ⌝ }
 {
     groups::find_tops(b, c, tops);
@@ -30,9 +30,9 @@ pub fn fill(
         let fresh = (COLUMNS * groups) as u16;
         words[place] = classes::word_of(who);
         terms[place] = classes::terms_of(who);
-        rows[place] = choice::short(alone, fresh, shared);
+        rows[place] = choice::number(alone, fresh, shared);
         heads[groups] = place as u16;
-        groups += choice::one(alone) as usize;
+        groups += choice::one_if(alone) as usize;
         place += 1;
     }
     groups

@@ -22,10 +22,10 @@ use Rattle.parties.specs.RowLaws.{top-self, lower, tops-le}
 use Rattle.covering.specs.ByPlace.{partsAt, restsAt}
 use Rattle.covering.specs.Bounds.{all-le}
 use Rattle.cells.specs.declared.Sums.{Sums}
-use Rattle.cells.specs.Cells.{columnAt, cellOf, apart, folded, rowAt, columnSum, Tabled, Zeros, FoldFits, Folded, Posted}
+use Rattle.cells.specs.Cells.{columnAt, cellOf, apart, folded, cellsFrom, columnSum, Tabled, Zeros, FoldFits, Folded, Posted}
 use Rattle.cells.specs.Adding.{inCell, Adding, adding-end, amount-le, amount-none}
 use Rattle.cells.specs.CellLaws.{cell-small}
-use Rattle.cells.specs.CellSums.{Entered, entered, amount-inside, entry-le, column-sum, bills-sum, free-sum, group-column, tier-sum, a3-sum}
+use Rattle.cells.specs.CellSums.{AllPosted, entered, amount-inside, entry-le, column-sum, bills-sum, free-sum, group-column, tier-sum, a3-sum}
 use Rattle.posting.proofs.Posting.{Room}
 
 module _ {b covered rests : List ℕ} (acc : Accepted b) (t : Tabled b covered rests) where
@@ -48,13 +48,13 @@ module _ {b covered rests : List ℕ} (acc : Accepted b) (t : Tabled b covered r
     rests-room q = omega (arith, z .each q, adding-end p q, both-le (inCell (cellOf b) q))
 
     module _ {cells₂ : List ℕ} (r : Adding (cellOf b) cells₁ left cells₂ []) (eg : groups ≡ topsTo b (C b)) where
-      all : Entered b cells₂
+      all : AllPosted b cells₂
       all = entered acc t z p r
 
       sum-le : (c : ℕ) → c < columns → columnSum cells₂ c groups < 2 ^ 64
       sum-le c h = rw eg (omega (arith, column-sum acc all t c h, amount-le (λ x. columnAt b x =? c) (exposures (bookOf b)), all-le b acc))
 
-      fold-le : (at s : ℕ) → folded (rowAt cells₂ at) s < 2 ^ 64
+      fold-le : (at s : ℕ) → folded (cellsFrom cells₂ at) s < 2 ^ 64
       unfolding folded
       fold-le at s =
           let one = entry-le acc all (at + s) in

@@ -19,7 +19,7 @@ use Rattle.covering.specs.ByPlace.{partsAt, restsAt}
 use Rattle.cells.specs.Cells.{cellOf, partAt, Rowed}
 use Rattle.assets.specs.Assets.{restCell}
 use Rattle.cells.specs.Adding.{inCell, Adding, adding-start, adding-step, adding-room}
-use Rattle.cells.specs.CellLaws.{Inside, cell-small, rest-cell}
+use Rattle.cells.specs.CellLaws.{ExposureInside, cell-small, rest-cell}
 
 -- ---- the cell of a covered part
 
@@ -43,7 +43,7 @@ module _ {b : List ℕ} {place : ℕ} {m : Mitigant} (acc : Accepted b) (l : 0 <
 
 -- ---- room
 
-cell-few : {b : List ℕ} → Accepted b → (x : Exposure) → Inside b x → cellOf b x < columns * mostGroups
+cell-few : {b : List ℕ} → Accepted b → (x : Exposure) → ExposureInside b x → cellOf b x < columns * mostGroups
 cell-few {b} acc x i = omega (arith, cell-small b x i, tops-le b (C b), acc .counterparties)
 
 -- room for a list of exposures
@@ -77,7 +77,7 @@ module _ {b covered cells₀ cells : List ℕ} {place : ℕ} (o : OnParts b cove
         let e : K b + 1 - (place + 1) ≡ K b - place = omega arith in
         rw (d, e)
 
-    inside : Inside b part
+    inside : ExposureInside b part
     unfolding coveredPart
     inside = let f = acc .mitigant place (o .low) h in record { low = f .low; high = f .high }
 
@@ -127,7 +127,7 @@ module _ {b rests cells₀ cells : List ℕ} {place : ℕ} (o : OnRests b rests 
         let e : N b + 1 - (place + 1) ≡ N b - place = omega arith in
         rw (d, e)
 
-    inside-rest : Inside b left
+    inside-rest : ExposureInside b left
     unfolding remainder
     inside-rest = let f = acc .asset place (o .low) h in record { low = f .low; high = f .high }
 

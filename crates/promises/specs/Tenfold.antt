@@ -7,7 +7,7 @@ use Rattle.figures.specs.Fund.{Fund}
 use Rattle.bills.specs.Bills.{deskExcess, billBytes}
 use Rattle.schedule.specs.CountLaws.{Tenfold, tenfold-counts, tenfold-check}
 use Rattle.report.specs.Answer.{fundIn, reportOf, checkOf, answerOf}
-use Rattle.billing.specs.Billed.{linesOf, excessIn, billsOf, billCheck, billAnswer}
+use Rattle.billing.specs.Billed.{exposureLinesIn, excessIn, billsOf, billCheck, billAnswer}
 use Rattle.questions.specs.Headroom.{answerTo, answersOf, headroomCheck, headroomAnswer}
 
 module _ {s s′ : List ℕ} (t : Tenfold s s′) (book : List ℕ) where
@@ -25,7 +25,7 @@ module _ {s s′ : List ℕ} (t : Tenfold s s′) (book : List ℕ) where
 
   pub same-bills : (rate : ℕ) → billsOf s′ book rate ≡ billsOf s book rate
   unfolding billsOf excessIn
-  same-bills rate = ap (λ (F : Fund). billBytes (λ d. deskExcess F (linesOf book) d) rate) same-fund
+  same-bills rate = ap (λ (F : Fund). billBytes (λ d. deskExcess F (exposureLinesIn book) d) rate) same-fund
 
   pub same-bill-answer : (rate buffer : ℕ) → billAnswer s′ book rate buffer ≡ billAnswer s book rate buffer
   unfolding billAnswer billCheck

@@ -27,7 +27,7 @@ use Rattle.fund.specs.Figures.{limit, order, fundOf}
 use Rattle.fund.proofs.OrderLaws.{ordered}
 use Rattle.fund.specs.Fund.{Exposed, RatedAs}
 use Rattle.report.specs.Answer.{fundIn}
-use Rattle.questions.specs.Tables.{startAt, exposuresAt, columnAt, answerAt, Answerable}
+use Rattle.questions.specs.Tables.{startAt, exposuresAt, askedColumn, answerAt, Answerable}
 use Rattle.questions.specs.Headroom.{asked, groupOf, tierFor, answerTo}
 use Rattle.asking.proofs.Listed.{InRange}
 
@@ -56,7 +56,7 @@ module _ {schedule b : List ℕ} {groups : ℕ} {f : made.Fund} {words rows cell
   row-is : (t : ℕ) → t < tiers → exposuresAt rows cells place t ≡ exposureOf (bookOf b) g t
   row-is t l = rw start-is (x .posted .tier g t low high (top-alone (counterpartyAt b) place) l)
 
-  column-is : columnAt words place kind ≡ columnOf (asked place kind) who
+  column-is : askedColumn words place kind ≡ columnOf (asked place kind) who
   column-is = rw (w .word place (q .first) (q .last)) (word-kind who (acc .flags place (q .first) (q .last)) (asked place kind) (q .low) (q .high) (q .other))
 
   pub answerable : Answerable (f .limits) (f .ranking) words rows cells place kind
@@ -71,7 +71,7 @@ module _ {schedule b : List ℕ} {groups : ℕ} {f : made.Fund} {words rows cell
     amounts = omega (arith, sum-same (exposuresAt rows cells place) (exposureOf (bookOf b) g) tiers row-is, group-le b acc tiers g low high);
   }
 
-  tier-is : tierIn (columnAt words place kind) ≡ tierFor b place kind
+  tier-is : tierIn (askedColumn words place kind) ≡ tierFor b place kind
   unfolding tierOf
   tier-is = rw column-is (tier-in (asked place kind) who)
 

@@ -22,12 +22,12 @@ abbrev pub exposuresAt : List ℕ → List ℕ → ℕ → ℕ → ℕ
 exposuresAt rows cells place = rowFrom cells (startAt rows place)
 
 -- the column of a kind
-abbrev pub columnAt : List ℕ → ℕ → ℕ → ℕ
-columnAt words place kind = digit (kind - 1) (getD words place 0)
+abbrev pub askedColumn : List ℕ → ℕ → ℕ → ℕ
+askedColumn words place kind = digit (kind - 1) (getD words place 0)
 
 unfoldable pub answerAt : (ℕ → ℕ → Bool) → List ℕ → List ℕ → List ℕ → List ℕ → ℕ → ℕ → ℕ
 answerAt order limits words rows cells place kind =
-    roomIn tiers order (byTier limits) (exposuresAt rows cells place) (tierIn (columnAt words place kind)) M
+    roomIn tiers order (byTier limits) (exposuresAt rows cells place) (tierIn (askedColumn words place kind)) M
 
 abbrev pub answersAt : (ℕ → ℕ → Bool) → List ℕ → List ℕ → List ℕ → List ℕ → List ℕ → ℕ → List ℕ
 answersAt order limits words rows cells questions n = map (λ k. answerAt order limits words rows cells (placeAt questions k) (kindAt questions k)) (countFrom 0 n)
@@ -37,7 +37,7 @@ pub record Answerable (limits ranking words rows cells : List ℕ) (place kind :
   pub rows-size : place < length rows
   pub low : 0 < kind
   pub high : kind < 12
-  pub column : columnAt words place kind < columns
+  pub column : askedColumn words place kind < columns
   pub row : startAt rows place + tiers ≤ length cells
   pub ranks : RankedBy limits ranking
   pub amounts : sum (exposuresAt rows cells place) tiers ≤ 900 * M

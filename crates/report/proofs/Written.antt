@@ -33,12 +33,12 @@ use Rattle.figures.proofs.Written.{charge-in}
 use Rattle.figures.proofs.Least.{least-cuts}
 use Rattle.lines.specs.Table.{Heads, tableFund}
 use Rattle.lines.specs.Listing.{source}
-use Rattle.lines.specs.Promise.{Listable, Listed, allExposures, Table, Ready, Reported}
+use Rattle.lines.specs.Promise.{Listable, Listed, allExposures, Table, Writable, ReportPut}
 use Rattle.lines.proofs.Heads.{head-exposure, no-exposure}
 use Rattle.writing.proofs.Whole.{listed-table}
 use Rattle.parties.specs.Rows.{topsTo}
 use Rattle.parties.specs.RowLaws.{tops-le, lower, headed-length, Head, head-is, head-at, heads-rise}
-use Rattle.cells.specs.Cells.{rowAt}
+use Rattle.cells.specs.Cells.{cellsFrom}
 use Rattle.cells.specs.GroupSums.{exposure-none, row-tier, rows-le}
 use Rattle.fund.specs.declared.Fund as made
 use Rattle.fund.specs.Figures.{order, fundOf}
@@ -83,7 +83,7 @@ module _ {b heads : List ℕ} (H : Headed b heads) {groups : ℕ} (eg : groups �
 
     pub amounts : Accepted b → allExposures cells groups ≤ 900 * M
     amounts acc =
-        let each = sum-same (λ k. sum (byTier (row cells k)) tiers) (λ k. sum (rowAt cells (columns * k)) tiers) groups (λ k _. sum-same (byTier (row cells k)) (rowAt cells (columns * k)) tiers (row-at cells k)) in
+        let each = sum-same (λ k. sum (byTier (row cells k)) tiers) (λ k. sum (cellsFrom cells (columns * k)) tiers) groups (λ k _. sum-same (byTier (row cells k)) (cellsFrom cells (columns * k)) tiers (row-at cells k)) in
         omega (arith, each, rows-le acc (e .posted) eg)
 
     module _ {schedule : List ℕ} {r : made.Fund} (d : RatedAs schedule b r) where
@@ -154,12 +154,12 @@ module _ {b heads : List ℕ} (H : Headed b heads) {groups : ℕ} (eg : groups �
         table : Accepted b → Room groups sets₀ list₀ → length sets ≡ length sets₀ → Table ranks (source (r .limits) (r .ranking) cells sets heads) list groups n
         table acc q size = listed-table ranks (source (r .limits) (r .ranking) cells sets heads) ranks-ordered (d .ranking) (rw (d .ranking) at (listable acc q)) (rw (d .ranking) at l) size heads-long (amounts acc)
 
-        pub ready : Accepted b → Room groups sets₀ list₀ → length sets ≡ length sets₀ → {room : ℕ} → headSize + lineSize * n ≤ room → Ready (source (r .limits) (r .ranking) cells sets heads) list n (r .figures) room
+        pub ready : Accepted b → Room groups sets₀ list₀ → length sets ≡ length sets₀ → {room : ℕ} → headSize + lineSize * n ≤ room → Writable (source (r .limits) (r .ranking) cells sets heads) list n (r .figures) room
         ready acc q size h = record { order = ranks; groups = groups; places = C b; table = table acc q size; heads = heads-are; a3 = d .a3-within; fits = h }
 
         pub answered :
             Passed schedule b → fundCheck (bookOf b) ≡ Fine → Accepted b → Room groups sets₀ list₀ → length sets ≡ length sets₀ → {before after : List ℕ} → headSize + lineSize * n ≤ length before
-            → Reported (source (r .limits) (r .ranking) cells sets heads) list n (r .figures) before after → Answered schedule b before after (Written (headSize + lineSize * n))
+            → ReportPut (source (r .limits) (r .ranking) cells sets heads) list n (r .figures) before after → Answered schedule b before after (Written (headSize + lineSize * n))
         answered p f acc q size {before} {after} h w =
             let put : after ≡ report written ++ drop (length (report written)) before = w ranks (C b) groups heads-are (table acc q size) in
             let a : after ≡ reportOf schedule b ++ drop (headSize + lineSize * n) before = put ∙ ap₂ (λ (x : List ℕ) (k : ℕ). x ++ drop k before) report-is (ap length report-is ∙ size-is) in

@@ -14,7 +14,7 @@ fn before_excluded(b: &[u8], values: u64, stressed: u64) -> u64
     ensures { λ r. ⌜ r ≡ beforeExcluded (bookOf (now (b .entry))) ⌝ }
 {
     let h = header::header_at(b);
-    choice::less(h.total, values) + stressed
+    choice::difference(h.total, values) + stressed
 }
 
 pub fn vaf(b: &[u8], v: Values) -> u64
@@ -22,7 +22,7 @@ pub fn vaf(b: &[u8], v: Values) -> u64
     ensures { λ r. ⌜ r ≡ VAF (bookOf (now (b .entry))) ⌝ }
 {
     let h = header::header_at(b);
-    choice::less(h.total, v.netted)
+    choice::difference(h.total, v.netted)
 }
 
 pub fn stressed_vaf(b: &[u8], v: Values) -> u64
@@ -30,7 +30,7 @@ pub fn stressed_vaf(b: &[u8], v: Values) -> u64
     ensures { λ r. ⌜ r ≡ VAF′ (bookOf (now (b .entry))) ⌝ }
 {
     let h = header::header_at(b);
-    choice::less(before_excluded(b, v.reinsurance, v.stressed), h.excluded)
+    choice::difference(before_excluded(b, v.reinsurance, v.stressed), h.excluded)
 }
 
 // Refusals 14 and 15, out of the two sums.
@@ -40,7 +40,7 @@ pub fn check_sums(b: &[u8], values: u64, stressed: u64) -> Checked
 {
     let h = header::header_at(b);
     let before = before_excluded(b, values, stressed);
-    let within = (h.excluded <= before) & (choice::less(before, h.excluded) <= wire::M);
+    let within = (h.excluded <= before) & (choice::difference(before, h.excluded) <= wire::M);
     let held = refusal::unless(Refusal::ReinsuranceValues, values <= h.total);
     refusal::and_then(held, refusal::unless(Refusal::StressedAssets, within))
 }

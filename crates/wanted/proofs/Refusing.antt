@@ -10,7 +10,7 @@ use Rattle.refusal.specs.declared.Answer.the-variants.{Refused}
 use Rattle.refusal.specs.declared.Refusal.{Refusal}
 use Rattle.refusal.specs.declared.Refusal.the-variants.{BufferShort, CostRate, Questions, AnswersShort}
 use Rattle.refusal.specs.Chain.{refuse_unless_, _andThen_}
-use Rattle.bills.specs.Bills.{mostRate, billsSize}
+use Rattle.bills.specs.Bills.{mostCostRate, billsSize}
 use Rattle.schedule.specs.Check.{scheduleCheck}
 use Rattle.book.specs.Records.{C}
 use Rattle.book.specs.Book.{bookOf}
@@ -32,7 +32,7 @@ module _ (schedule book asked before : List ℕ) where
   -- the checks behind 15
   abbrev last : Wanted → Checked
   last Report = refuse BufferShort unless length (reportOf schedule book) ≤? length before
-  last (Bills rate) = (refuse CostRate unless rate ≤? mostRate) andThen (refuse BufferShort unless billsSize ≤? length before)
+  last (Bills rate) = (refuse CostRate unless rate ≤? mostCostRate) andThen (refuse BufferShort unless billsSize ≤? length before)
   last Headroom = (refuse Questions unless goodList (C book) asked) andThen (refuse AnswersShort unless answerSize * countOf asked ≤? length before)
 
   module _ {why : Refusal} where

@@ -12,7 +12,7 @@ use Rattle.figures.specs.declared.Figures.{Figures}
 use Rattle.figures.specs.Report.{lineBytes, tierSet, lineOf, cellLines, linesOf, groupExcess, charge}
 use Rattle.rows.specs.Rows.{row}
 use Rattle.lines.specs.Table.{setOf, tableFund}
-use Rattle.lines.specs.Listing.{allEntries, entriesOf, ranks, shownBy, tried, Source, entryLine, linesAlong, listedLines}
+use Rattle.lines.specs.Listing.{allEntries, entriesOf, allRanks, shownBy, tried, Source, entryLine, linesAlong, listedLines}
 use Rattle.layout.specs.Put.{LinePut}
 
 abbrev limits : List ℕ
@@ -53,7 +53,7 @@ unfolding cascade-ranks insert ranked next standing left excess sum eachOf count
 t2-lines = refl
 
 -- tier 2 is of rank 3
-t2-listed : (entriesOf (table .cells) 2 by-rank ≡ 16 ∷ 18 ∷ []) × (tried (shownBy (table .cells) by-rank) 0 (allEntries 2 ranks) (1 ∷ 2 ∷ 3 ∷ 4 ∷ []) ≡ 16 ∷ 19 ∷ 31 ∷ 4 ∷ []) × (listedLines table (16 ∷ 19 ∷ 31 ∷ 4 ∷ []) 2 ≡ lines)
+t2-listed : (entriesOf (table .cells) 2 by-rank ≡ 16 ∷ 18 ∷ []) × (tried (shownBy (table .cells) by-rank) 0 (allEntries 2 allRanks) (1 ∷ 2 ∷ 3 ∷ 4 ∷ []) ≡ 16 ∷ 19 ∷ 31 ∷ 4 ∷ []) × (listedLines table (16 ∷ 19 ∷ 31 ∷ 4 ∷ []) 2 ≡ lines)
 unfolding cascade-ranks insert ranked next eachOf those countFrom tried entryLine linesAlong
 t2-listed = (refl, refl, refl)
 

@@ -21,7 +21,7 @@ use Rattle.figures.proofs.Least.{excess-lines}
 use Rattle.figures.proofs.Written.{head-long}
 use Rattle.figures.proofs.Size.{joined-long}
 use Rattle.lines.specs.Table.{Heads, tableFund}
-use Rattle.lines.specs.Listing.{exposureIn, allEntries, ranks, ofRank, shownBy, Source, linesAlong, noGroup, entriesIn, listedLines}
+use Rattle.lines.specs.Listing.{exposureIn, allEntries, allRanks, ofRank, shownBy, Source, linesAlong, noGroup, entriesIn, listedLines}
 use Rattle.lines.specs.Promise.{Listable, Listed, Entries, Table, allExposures}
 use Rattle.lines.proofs.Entries.{all-inside, entries-few, entries-sum}
 use Rattle.lines.proofs.Along.{along-long, along-within}
@@ -112,7 +112,7 @@ pub listed-table :
 listed-table order S o q {groups} {sets₀} {list₀} {list} {n} a l size tops few =
     let by-rank = ranked order tiers in
     let long = length-ranked order tiers in
-    let n-is : n ≡ length (those (shownBy (S .cells) by-rank) (allEntries groups ranks)) = l .count ∙ sym (entries-many by-rank (a .ranks) long (S .cells) groups) in
+    let n-is : n ≡ length (those (shownBy (S .cells) by-rank) (allEntries groups allRanks)) = l .count ∙ sym (entries-many by-rank (a .ranks) long (S .cells) groups) in
     record {
       ordered = o;
       by-rank = q;

@@ -15,8 +15,8 @@ use Rattle.cascade.proofs.Lists.{all-at}
 use Rattle.figures.specs.declared.Line.{Line}
 use Rattle.figures.specs.Report.{headSize, lineBytes, joined}
 use Rattle.figures.proofs.Size.{joined-long}
-use Rattle.lines.specs.Listing.{groupIn, tierIn, exposureIn, ofRank, Source, source, before, entryLine, linesAlong, entriesIn}
-use Rattle.lines.specs.Promise.{Inside, Entries}
+use Rattle.lines.specs.Listing.{groupIn, indexIn, exposureIn, ofRank, Source, source, before, entryLine, linesAlong, entriesIn}
+use Rattle.lines.specs.Promise.{EntryInside, Entries}
 use Rattle.lines.proofs.Along.{along-long}
 use Rattle.rows.proofs.Ranked.{map-at}
 
@@ -44,17 +44,17 @@ module _ (S : Source) where
 
   -- what the code has of an entry e before which `under` stands
   abbrev pub outcomeIn : ℕ → ℕ → Outcome
-  outcomeIn under e = outcomeAt (λ _. L (tierIn e)) (λ _. exposureIn (S .cells) e) under 0
+  outcomeIn under e = outcomeAt (λ _. L (indexIn e)) (λ _. exposureIn (S .cells) e) under 0
 
   module _ (under e : ℕ) (o : Outcome) (h : o ≡ outcomeIn under e) where
     line-is :
         _≡_ {A = Line}
         (record {
           top = getD (S .heads) (groupIn e) 0;
-          tier = tierIn e;
+          tier = indexIn e;
           tiers = getD (S .sets) (groupIn e) 0;
           exposure = exposureIn (S .cells) e;
-          limit = L (tierIn e);
+          limit = L (indexIn e);
           left = o .left;
           excess = o .excess;
         })
@@ -64,11 +64,11 @@ module _ (S : Source) where
 
     -- of the parts that the code has
     pub line-of :
-        {g t x l : ℕ} → g ≡ groupIn e → t ≡ tierIn e → x ≡ exposureIn (S .cells) e → l ≡ L (tierIn e)
+        {g t x l : ℕ} → g ≡ groupIn e → t ≡ indexIn e → x ≡ exposureIn (S .cells) e → l ≡ L (indexIn e)
         → _≡_ {A = Line} (record { top = getD (S .heads) g 0; tier = t; tiers = getD (S .sets) g 0; exposure = x; limit = l; left = o .left; excess = o .excess }) (entryLine S under e)
     line-of p q r s = rw (p, q, r, s) line-is
 
-    pub standing-is : o .standing ≡ next L (λ _. exposureIn (S .cells) e) under (tierIn e)
+    pub standing-is : o .standing ≡ next L (λ _. exposureIn (S .cells) e) under (indexIn e)
     unfolding next outcomeAt
     standing-is = rw h
 
@@ -111,8 +111,8 @@ module _ (S : Source) where
       rest-step : rest i ≡ e ∷ rest (i + 1)
       rest-step = rw (drop-cons (entriesIn S list n) i 0 long, at, add-one)
 
-      pub entry-inside : Inside S e
-      entry-inside = rw at at (all-at (Inside S) (entriesIn S list n) (w .inside) i long)
+      pub entry-inside : EntryInside S e
+      entry-inside = rw at at (all-at (EntryInside S) (entriesIn S list n) (w .inside) i long)
 
       pub exposure-step : sumOf (exposureIn (S .cells)) (rest i) ≡ exposureIn (S .cells) e + sumOf (exposureIn (S .cells)) (rest (i + 1))
       unfolding sumOf
@@ -120,7 +120,7 @@ module _ (S : Source) where
 
       module _ (last s : ℕ) where
         abbrev more : List Line
-        more = linesAlong S (groupIn e) (next L (λ _. exposureIn (S .cells) e) (before last s e) (tierIn e)) (rest (i + 1))
+        more = linesAlong S (groupIn e) (next L (λ _. exposureIn (S .cells) e) (before last s e) (indexIn e)) (rest (i + 1))
 
         pub excess-step : excesses (linesAlong S last s (rest i)) ≡ entryLine S (before last s e) e .excess + excesses more
         unfolding linesAlong sumOf

@@ -9,7 +9,7 @@ ghost use Rattle.words.specs.Words.{sumOf};
 ghost use Rattle.wire.specs.Bytes.{placed};
 ghost use Rattle.figures.specs.Report.{headSize, joined};
 ghost use Rattle.lines.specs.Listing.{source, listedLines};
-ghost use Rattle.lines.specs.Promise.{Entries, Ready, Reported};
+ghost use Rattle.lines.specs.Promise.{Entries, Writable, ReportPut};
 
 // No group has this number.
 const NONE: usize = 65535;
@@ -75,11 +75,11 @@ pub fn put_report(
     lines: usize,
     figures: Figures,
 )
-    requires { ⌜ Ready (source limits ranking (now cells) (now sets) (now heads)) (now list) lines figures (length (now buffer)) ⌝ }
-    ensures { λ _. ⌜ Reported (source limits ranking (now (cells .entry)) (now (sets .entry)) (now (heads .entry))) (now (list .entry)) lines figures (now (buffer .entry)) (now (buffer .exit)) ⌝ }
+    requires { ⌜ Writable (source limits ranking (now cells) (now sets) (now heads)) (now list) lines figures (length (now buffer)) ⌝ }
+    ensures { λ _. ⌜ ReportPut (source limits ranking (now (cells .entry)) (now (sets .entry)) (now (heads .entry))) (now (list .entry)) lines figures (now (buffer .entry)) (now (buffer .exit)) ⌝ }
 {
     let group_excess = put_list(buffer, limits, ranking, cells, sets, heads, list, lines);
-    let over = choice::less(figures.a3_sum, figures.a3_limit);
+    let over = choice::difference(figures.a3_sum, figures.a3_limit);
     let head = Head {
         lines: lines as u16,
         vaf: figures.vaf,

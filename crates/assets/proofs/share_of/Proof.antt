@@ -9,7 +9,7 @@ use Rattle.assets.proofs.share_of.Tie as tie
 returns : tie.Need-returns
 returns c =
     let a = c .before .before .before .before .before .args .a in
-    let n : c .before .before .before .less .result ≡ c .before .before .before .before .before .args .from - a .offsets - a .deductions = c .before .before .before .less .ensures ∙ omega arith in
+    let n : c .before .before .before .difference .result ≡ c .before .before .before .before .before .args .from - a .offsets - a .deductions = c .before .before .before .difference .ensures ∙ omega arith in
     let l = c .before .before .is-linked .ensures in
     record { of-net = n; of-linked = c .before .amount .ensures ∙ rw (n, l); of-rest = c .amount2 .ensures ∙ rw (n, l) }
 

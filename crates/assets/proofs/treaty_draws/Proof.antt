@@ -4,7 +4,7 @@ use Rattle.assets.proofs.treaty_draws.Statement.{statement}
 use Rattle.assets.proofs.treaty_draws.Tie as tie
 
 returns : tie.Need-returns
-returns c = rw (c .short .ensures, c .before .half-of .ensures .0)
+returns c = rw (c .number .ensures, c .before .half-of .ensures .0)
 
 pub treaty-draws-spec : {M : Type 1} → statement M
 treaty-draws-spec = tie.close (tie.spec (λ c κs. search needs) (λ c κs. search needs) returns)

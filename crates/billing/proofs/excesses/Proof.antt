@@ -44,22 +44,22 @@ serve-requires c κs =
       placed = t .placed;
       covered-size = t .covered-size;
       rests-size = t .rests-size;
-      lined = lined t (byte d) (d .stand .ensures) (s .pre .1) (d .before .before .less .ensures);
-      room = serve-room t (byte d) (d .stand .ensures) (s .pre .1) (d .before .before .less .ensures);
+      lined = lined t (byte d) (d .stand .ensures) (s .pre .1) (d .before .before .difference .ensures);
+      room = serve-room t (byte d) (d .stand .ensures) (s .pre .1) (d .before .before .difference .ensures);
     }
 
 same-length-2 : tie.Need-same-length-2
 same-length-2 c =
     let d = c .before .before .before .before .before .before .before .before .before in
     let s = d .before .before .before .before .before .before .before .before .before .before .before .before .before .before .before .before .before .before .before in
-    let r = excesses-are (s .pre .0) (byte d) (d .stand .ensures) (s .pre .1) (d .before .before .less .ensures) (c .before .before .before .before .serve .ensures) in
+    let r = excesses-are (s .pre .0) (byte d) (d .stand .ensures) (s .pre .1) (d .before .before .difference .ensures) (c .before .before .before .before .serve .ensures) in
     r .size ∙ sym (ap length (s .pre .1) ∙ length-replicate {A = ℕ} deskCount 0)
 
 returns : tie.Need-returns
 returns c =
     let d = c .before .before .before .before .before .before .before .before .before in
     let s = d .before .before .before .before .before .before .before .before .before .before .before .before .before .before .before .before .before .before .before in
-    excesses-are (s .pre .0) (byte d) (d .stand .ensures) (s .pre .1) (d .before .before .less .ensures) (c .before .before .before .before .serve .ensures)
+    excesses-are (s .pre .0) (byte d) (d .stand .ensures) (s .pre .1) (d .before .before .difference .ensures) (c .before .before .before .before .serve .ensures)
 
 pub excesses-spec : {M : Type 1} → statement M
 excesses-spec =

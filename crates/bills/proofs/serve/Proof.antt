@@ -4,7 +4,7 @@ use Rattle.bills.proofs.serve.Statement.{statement}
 use Rattle.bills.proofs.serve.Tie as tie
 
 returns : tie.Need-returns
-returns c = record { cells = rw (c .before .before .less .ensures); excess = rw (c .before .less2 .ensures) }
+returns c = record { cells = rw (c .before .before .difference .ensures); excess = rw (c .before .difference2 .ensures) }
 
 pub serve-spec : {M : Type 1} → statement M
 serve-spec =

@@ -41,7 +41,7 @@ value-is : (c : tie.After-amount Inv-loop μ-loop) → c .amount .result ≡ ofR
 value-is c = rw (c .amount .ensures, c .before .before .before .is-reinsurance .ensures, c .before .before .before .before .asset-at .ensures)
 
 above-is : (c : tie.After-amount2 Inv-loop μ-loop) → c .amount2 .result ≡ ofReinsurance lessNetted (assetAt (now (c .before .before .before .before .before .before .before .before .before .before .before .before .args .b)) (c .before .before .before .before .before .before .before .loop .place))
-above-is c = rw (c .amount2 .ensures, c .before .before .less .ensures, c .before .before .before .stressed-of .ensures, c .before .before .before .before .is-reinsurance .ensures, c .before .before .before .before .before .asset-at .ensures)
+above-is c = rw (c .amount2 .ensures, c .before .before .difference .ensures, c .before .before .before .stressed-of .ensures, c .before .before .before .before .is-reinsurance .ensures, c .before .before .before .before .before .asset-at .ensures)
 
 add-values : tie.Need-add-values Inv-loop μ-loop
 add-values c = record { fits = below-room (c .before .before .before .before .before .before .loop .inv .of-values) (here (c .before .before .before .before .before)) (value-is c) (values-most _ (c .before .before .before .before .before .before .before .before .before .before .before .pre)) }

@@ -30,8 +30,8 @@ returns c =
     let first = second .before .before in
     let s = first .before .before .before in
     let who = s .args .who in
-    let one-is = c .one .ensures .0 in
-    let e : 16 * first .before .before .kind-number .result + first .amount .result + second .amount2 .result + third .amount3 .result + c .one .result ≡ classOf who = cc in
+    let one-is = c .one-if .ensures .0 in
+    let e : 16 * first .before .before .kind-number .result + first .amount .result + second .amount2 .result + third .amount3 .result + c .one-if .result ≡ classOf who = cc in
     (e, rw e (class-le who (s .pre)))
 
 pub class-of-spec : {M : Type 1} → statement M

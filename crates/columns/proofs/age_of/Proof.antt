@@ -45,7 +45,7 @@ aged n h = and-mask (12215739472165273600 / 2 ^ (4 * n)) 4 ∙ eqb-true _ _ (bel
 returns : tie.Need-returns
 returns c =
     let a = c .before .before .before .args in
-    rw (c .before .before .one .ensures .0, c .before .one2 .ensures .0, c .one3 .ensures .0, passed (a .entry) (a .months), aged (4 * a .entry + stageOf (a .months)) (omega (arith, stage-le (a .months))))
+    rw (c .before .before .one-if .ensures .0, c .before .one-if2 .ensures .0, c .one-if3 .ensures .0, passed (a .entry) (a .months), aged (4 * a .entry + stageOf (a .months)) (omega (arith, stage-le (a .months))))
     (refl, age-le (a .entry) (a .months) (c .before .before .before .pre))
 
 pub age-of-spec : {M : Type 1} → statement M

@@ -21,7 +21,7 @@ returns : tie.Need-returns
 unfolding drawnOff
 returns c =
     let s = c .before .before .before .before in
-    rw (c .amount .ensures, c .before .less .ensures) (put-back (now (s .args .halves)) (s .args .on) (s .args .part) (eqb (s .args .on) 0))
+    rw (c .amount .ensures, c .before .difference .ensures) (put-back (now (s .args .halves)) (s .args .on) (s .args .part) (eqb (s .args .on) 0))
 
 pub draw-spec : {M : Type 1} → statement M
 draw-spec =

@@ -7,7 +7,7 @@ use Rattle.header.proofs.assets_of.Tie as tie
 
 returns : tie.Need-returns
 unfolding assetsOf
-returns c = rw (c .short .ensures, c .before .has-desks .ensures, c .before .before .assets-start .ensures, header-counts _ (c .before .before .before .header-at .ensures) .0)
+returns c = rw (c .number .ensures, c .before .has-desks .ensures, c .before .before .assets-start .ensures, header-counts _ (c .before .before .before .header-at .ensures) .0)
 
 pub assets-of-spec : {M : Type 1} → statement M
 assets-of-spec =

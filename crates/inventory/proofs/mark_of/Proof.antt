@@ -6,7 +6,7 @@ use Rattle.inventory.proofs.mark_of.Statement.{statement}
 use Rattle.inventory.proofs.mark_of.Tie as tie
 
 returns : tie.Need-returns
-returns c = ap (λ (n : ℕ). 2 * c .before .before .args .place + n) (c .one .ensures .0 ∙ rw (c .before .is-reinsurance .ensures))
+returns c = ap (λ (n : ℕ). 2 * c .before .before .args .place + n) (c .one-if .ensures .0 ∙ rw (c .before .is-reinsurance .ensures))
 
 pub mark-of-spec : {M : Type 1} → statement M
 mark-of-spec =

@@ -6,7 +6,7 @@ use denote.Ref.{now}
 use lib.ListN.{length, take, getD, length-set}
 use Rattle.words.specs.Words.{sumOf}
 use Rattle.cascade.specs.Cascade.{tiers}
-use Rattle.lines.specs.Listing.{groupIn, tierIn, bitFor}
+use Rattle.lines.specs.Listing.{groupIn, indexIn, bitFor}
 use Rattle.rows.proofs.Ranked.{rank-few}
 use Rattle.lines.proofs.Bits.{shifted, bits-next, bits-within, own-bit, added-bit}
 use borrow.Author.Needs.{needs}
@@ -29,12 +29,12 @@ cast-entry c = omega (arith, c .shared-slice-known .given (c .before .before .lo
 
 -- the tier of the entry that is taken, and its bit
 module _ (c : tie.After-shared-slice-known Inv-loop μ-loop) where
-  few : getD (c .before .before .before .args .t3) (tierIn (getD (now (c .before .before .before .args .list)) (c .before .before .loop .i) 0)) 0 < tiers
+  few : getD (c .before .before .before .args .t3) (indexIn (getD (now (c .before .before .before .args .list)) (c .before .before .loop .i) 0)) 0 < tiers
   few =
       let s = c .before .before .before in
-      rank-few (s .args .t3) (s .pre .ranks) (search needs) (tierIn (getD (now (s .args .list)) (c .before .before .loop .i) 0)) (omega arith)
+      rank-few (s .args .t3) (s .pre .ranks) (search needs) (indexIn (getD (now (s .args .list)) (c .before .before .loop .i) 0)) (omega arith)
 
-  bit-is : 1 * 2 ^ getD (c .before .before .before .args .t3) (tierIn (getD (now (c .before .before .before .args .list)) (c .before .before .loop .i) 0)) 0 % 2 ^ 16 ≡ 2 ^ getD (c .before .before .before .args .t3) (tierIn (getD (now (c .before .before .before .args .list)) (c .before .before .loop .i) 0)) 0
+  bit-is : 1 * 2 ^ getD (c .before .before .before .args .t3) (indexIn (getD (now (c .before .before .before .args .list)) (c .before .before .loop .i) 0)) 0 % 2 ^ 16 ≡ 2 ^ getD (c .before .before .before .args .t3) (indexIn (getD (now (c .before .before .before .args .list)) (c .before .before .loop .i) 0)) 0
   bit-is = shifted _ few
 
 cast-t : tie.Need-cast-t Inv-loop μ-loop

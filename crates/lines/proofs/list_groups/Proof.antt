@@ -9,7 +9,7 @@ use lib.ListN.{length}
 use Rattle.words.specs.Words.{those}
 use Rattle.words.specs.Sums.{length-count}
 use Rattle.cascade.specs.Cascade.{tiers}
-use Rattle.lines.specs.Listing.{entry, allEntries, ranks, shownBy, tried}
+use Rattle.lines.specs.Listing.{entry, allEntries, allRanks, shownBy, tried}
 use Rattle.lines.proofs.Tries.{tried-long}
 use Rattle.lines.proofs.Groups.{later, later-first, later-end, none-counted, none-tried, group-few, count-step, list-step}
 use borrow.Author.Needs.{needs}
@@ -19,8 +19,8 @@ use Rattle.lines.proofs.list_groups.Tie as tie
 abbrev Inv-loop : tie.InvT-loop
 Inv-loop cells groups ranking list₀ place₀ k₀ list place k =
     (k ≤ groups) × (place ≤ tiers * k) × (length list ≡ length list₀)
-    × (place + length (those (shownBy cells ranking) (later groups ranks k)) ≡ length (those (shownBy cells ranking) (allEntries groups ranks)))
-    × (tried (shownBy cells ranking) place (later groups ranks k) list ≡ tried (shownBy cells ranking) 0 (allEntries groups ranks) list₀)
+    × (place + length (those (shownBy cells ranking) (later groups allRanks k)) ≡ length (those (shownBy cells ranking) (allEntries groups allRanks)))
+    × (tried (shownBy cells ranking) place (later groups allRanks k) list ≡ tried (shownBy cells ranking) 0 (allEntries groups allRanks) list₀)
 
 abbrev μ-loop : tie.MeasureT-loop
 μ-loop cells groups ranking list₀ place₀ k₀ list place k = groups - k
@@ -29,7 +29,7 @@ loop-holds : tie.Need-loop-holds Inv-loop μ-loop
 loop-holds c =
     let a = c .before .before .args in
     let shows = shownBy (now (a .cells)) (a .ranking) in
-    let n = later-first (a .groups) ranks in (
+    let n = later-first (a .groups) allRanks in (
       omega arith,
       omega arith,
       refl,
@@ -51,12 +51,12 @@ loop-again c =
     let g = c .before .before .list-group in
     let a = s .args in
     let shows = shownBy (now (a .cells)) (a .ranking) in
-    let few = group-few shows (a .groups) ranks (l .k) (omega arith) in (
+    let few = group-few shows (a .groups) allRanks (l .k) (omega arith) in (
       omega arith,
       omega (arith, few, g .ensures .0, l .inv .1, length-count 0 tiers),
       ap length (g .ensures .1) ∙ tried-long _ _ _ _ ∙ l .inv .2,
-      omega (arith, g .ensures .0, l .inv .3, count-step shows (a .groups) ranks (l .k) (omega arith)),
-      rw (g .ensures .0) (sym (list-step shows (a .groups) ranks (l .k) (omega arith) (l .place) (l .list) (g .last .0) (g .ensures .1)) ∙ l .inv .4),
+      omega (arith, g .ensures .0, l .inv .3, count-step shows (a .groups) allRanks (l .k) (omega arith)),
+      rw (g .ensures .0) (sym (list-step shows (a .groups) allRanks (l .k) (omega arith) (l .place) (l .list) (g .last .0) (g .ensures .1)) ∙ l .inv .4),
     )
 
 returns : tie.Need-returns Inv-loop μ-loop
@@ -64,7 +64,7 @@ returns c =
     let a = c .before .before .before .before .args in
     let l = c .before .loop in
     let shows = shownBy (now (a .cells)) (a .ranking) in
-    let none = later-end (a .groups) ranks (l .k) (omega arith) in
+    let none = later-end (a .groups) allRanks (l .k) (omega arith) in
     (sym (none-counted shows (l .place) none) ∙ l .inv .3, none-tried shows (l .place) (l .list) none ∙ l .inv .4)
 
 pub list-groups-spec : {M : Type 1} → statement M

@@ -59,7 +59,7 @@ loop-again c =
     let h = c .before .before .before .before .before .before .before .before .loop-test .taken in
     filling-step (l .loop .inv) (s .pre .0) (s .pre .1) (s .pre .2) h (c .before .before .before .before .before .before .before .counterparty-at .ensures)
     (top-found (l .loop .inv) (s .pre .0) (s .pre .1) (s .pre .2) h (f .find-tops .ensures))
-    (c .before .before .before .word-of .ensures) (c .before .before .terms-of .ensures) (c .before .short .ensures) (c .one .ensures .0)
+    (c .before .before .before .word-of .ensures) (c .before .before .terms-of .ensures) (c .before .number .ensures) (c .one-if .ensures .0)
 
 pub fill-spec : {M : Type 1} → statement M
 fill-spec =

@@ -4,7 +4,7 @@ use native.Mathlib.Omega.{arith}
 use denote.Ref.{now}
 use lib.ListN.{getD}
 use Rattle.columns.specs.Column.{tierIn}
-use Rattle.questions.specs.Tables.{columnAt, answerAt}
+use Rattle.questions.specs.Tables.{askedColumn, answerAt}
 use borrow.Author.Needs.{needs}
 use Rattle.questions.proofs.answer.Statement.{statement}
 use Rattle.questions.proofs.answer.Tie as tie
@@ -13,7 +13,7 @@ use Rattle.questions.proofs.answer.Tie as tie
 tier-is :
     (c : tie.After-of-kind)
     → let a = c .before .before .before .before .before .before .args in
-    getD (now (a .tiers)) (c .of-kind .result) 0 ≡ tierIn (columnAt (now (a .words)) (a .place) (a .kind))
+    getD (now (a .tiers)) (c .of-kind .result) 0 ≡ tierIn (askedColumn (now (a .words)) (a .place) (a .kind))
 tier-is c =
     let s = c .before .before .before .before .before .before in
     rw (c .of-kind .ensures .0) (s .pre .1 .each _ (s .pre .0 .column))

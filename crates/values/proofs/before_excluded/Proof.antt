@@ -16,7 +16,7 @@ unfolding headerAt
 add-result c =
     let s = c .before .before .before in
     let t : c .before .header-at .result .total ≡ total (now (s .args .b)) = ap (λ (h : Header). h .total) (c .before .header-at .ensures) in
-    omega (arith, c .less .ensures, stressed-sum-le (now (s .args .b)) (s .pre .0), s .pre .2, s .pre .0 .total, t)
+    omega (arith, c .difference .ensures, stressed-sum-le (now (s .args .b)) (s .pre .0), s .pre .2, s .pre .0 .total, t)
 
 returns : tie.Need-returns
 unfolding beforeExcluded bookOf headerAt

@@ -17,8 +17,8 @@ use Rattle.figures.specs.declared.Line.{Line}
 use Rattle.figures.specs.Report.{headSize, lineSize, lineBytes, joined}
 use Rattle.figures.proofs.Back.{line-long}
 use Rattle.rows.specs.Rows.{row}
-use Rattle.lines.specs.Listing.{groupIn, tierIn, exposureIn, ofRank, Source, source, before, entryLine, linesAlong, noGroup, entriesIn, listedLines}
-use Rattle.lines.specs.Promise.{Inside}
+use Rattle.lines.specs.Listing.{groupIn, indexIn, exposureIn, ofRank, Source, source, before, entryLine, linesAlong, noGroup, entriesIn, listedLines}
+use Rattle.lines.specs.Promise.{EntryInside}
 use Rattle.lines.proofs.Entries.{exposure-in}
 use Rattle.rows.proofs.Ranked.{map-at, rank-few}
 use Rattle.lines.proofs.Ranks.{rank-group, rank-tier}
@@ -79,13 +79,13 @@ module _ (c : tie.In-loop Inv-loop μ-loop) where
   long : length ranking ≡ tiers
   long = search needs
 
-  here : Inside own e
+  here : EntryInside own e
   here = entry-inside own (now (start .args .list)) (start .args .lines) _ (start .pre) at (omega arith)
 
   group : groupIn e ≡ groupIn code
   group = rank-group ranking (start .pre .ranked) long code
 
-  tier : tierIn e ≡ getD ranking (tierIn code) 0
+  tier : indexIn e ≡ getD ranking (indexIn code) 0
   tier = rank-tier ranking (start .pre .ranked) long code
 
   exposure-here : sumOf (exposureIn cells) (rest own (now (start .args .list)) (start .args .lines) at) ≡ exposureIn cells e + sumOf (exposureIn cells) (rest own (now (start .args .list)) (start .args .lines) (at + 1))
@@ -96,8 +96,8 @@ module _ (c : tie.In-loop Inv-loop μ-loop) where
   under = before (c .before .loop .last) (c .before .loop .standing) e
 
   -- its limit, of whatever limits the ranked ones are
-  limit-is : (limits : List ℕ) → ranked ≡ map (byTier limits) ranking → getD ranked (tierIn code) 0 ≡ byTier limits (tierIn e)
-  limit-is limits q = ap (λ (r : List ℕ). getD r (tierIn code) 0) q ∙ map-at (byTier limits) ranking (tierIn code) (omega (arith, long)) ∙ ap (byTier limits) (sym tier)
+  limit-is : (limits : List ℕ) → ranked ≡ map (byTier limits) ranking → getD ranked (indexIn code) 0 ≡ byTier limits (indexIn e)
+  limit-is limits q = ap (λ (r : List ℕ). getD r (indexIn code) 0) q ∙ map-at (byTier limits) ranking (indexIn code) (omega (arith, long)) ∙ ap (byTier limits) (sym tier)
 
 -- where the group's exposures are at hand
 module _ (c : tie.Joined1 Inv-loop μ-loop) where
@@ -114,16 +114,16 @@ module _ (c : tie.Joined1 Inv-loop μ-loop) where
       ⊎-elim (λ w. w .4 ∙ rw (ne-eqb (groupIn (e in-loop)) (in-loop .before .loop .last) (λ z. w .0 .taken (sym (group in-loop) ∙ z))))
       (λ w. w .2 ∙ rw (eq-eqb (groupIn (e in-loop)) (in-loop .before .loop .last) (group in-loop ∙ w .0 .left))) (c .if1 .came)
 
-  exposure-is : getD (c .if1 .exposures) (tierIn (code in-loop)) 0 ≡ exposureIn (cells in-loop) (e in-loop)
+  exposure-is : getD (c .if1 .exposures) (indexIn (code in-loop)) 0 ≡ exposureIn (cells in-loop) (e in-loop)
   exposure-is =
-      let r = tierIn (code in-loop) in
+      let r = indexIn (code in-loop) in
       ap (λ (xs : List ℕ). getD xs r 0) exposures-are
       ∙ map-at (byTier (row (cells in-loop) (groupIn (code in-loop)))) (ranking in-loop) r (omega (arith, long in-loop))
       ∙ sym (exposure-in (groupIn (code in-loop)) (getD (ranking in-loop) r 0) (rank-few (ranking in-loop) (start in-loop .pre .ranked) (long in-loop) r (omega arith)) (cells in-loop))
 
   -- what stands before it, its exposure and the excesses so far are within all exposures
   within :
-      c .if1 .standing + getD (c .if1 .exposures) (tierIn (code in-loop)) 0 + in-loop .before .loop .excesses
+      c .if1 .standing + getD (c .if1 .exposures) (indexIn (code in-loop)) 0 + in-loop .before .loop .excesses
       + sumOf (exposureIn (cells in-loop)) (rest (own in-loop) (now (start in-loop .args .list)) (start in-loop .args .lines) (at in-loop + 1))
       ≤ sumOf (exposureIn (cells in-loop)) (entriesIn (own in-loop) (now (start in-loop .args .list)) (start in-loop .args .lines))
   within =
@@ -143,7 +143,7 @@ module _ (c : tie.After-cut Inv-loop μ-loop) where
   own-cut = cut-is (start i .args .limits) (i .before .before .by-rank .ensures)
 
   -- what it adds to what stands and to the excesses
-  adds : c .cut .result .standing + c .cut .result .excess ≡ c .before .if1 .standing + getD (c .before .if1 .exposures) (tierIn (code i)) 0
+  adds : c .cut .result .standing + c .cut .result .excess ≡ c .before .if1 .standing + getD (c .before .if1 .exposures) (indexIn (code i)) 0
   adds = omega (arith, standing-was (c .before), exposure-is (c .before), kept (own i) (under i) (e i) (c .cut .result) own-cut)
 
 -- where no line is left
@@ -187,7 +187,7 @@ head-in c = rw (← group (i c)) (here (i c) .head)
 set-in : (c : tie.After-cut Inv-loop μ-loop) → groupIn (code (i c)) < length (now (start (i c) .args .sets))
 set-in c = rw (← group (i c)) (here (i c) .set)
 
-tier-in : (c : tie.After-cut Inv-loop μ-loop) → getD (ranking (i c)) (tierIn (code (i c))) 0 < tiers
+tier-in : (c : tie.After-cut Inv-loop μ-loop) → getD (ranking (i c)) (indexIn (code (i c))) 0 < tiers
 tier-in c = rw (← tier (i c)) (here (i c) .tier)
 
 put-line-requires : tie.Need-put-line-requires Inv-loop μ-loop

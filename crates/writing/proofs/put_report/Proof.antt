@@ -15,13 +15,13 @@ cast-t15 c = record { fits = omega (arith, lines-few (c .before .before .before 
 add-t16 : tie.Need-add-t16
 add-t16 c =
     let r = c .before .before .before .before .before .before .before .before .before .before .pre in
-    record { fits = omega (arith, c .before .before .before .put-list .ensures .0, c .less .ensures, r .a3, excess-few (r .table)) }
+    record { fits = omega (arith, c .before .before .before .put-list .ensures .0, c .difference .ensures, r .a3, excess-few (r .table)) }
 
 returns : tie.Need-returns
 returns c order places groups h t =
     let s = c .before .before .before .before .before .before .before .before .before .before .before .before .before .before in
     let p = c .before .before .before .before .before .before .before .put-list in
-    let o = c .before .before .before .before .less in
+    let o = c .before .before .before .before .difference in
     report-put t h (s .args .figures) (p .result) (o .result) (p .ensures .0) (o .ensures) (now (s .args .buffer)) (p .last .0) (c .before .before .put-head .last .0) (s .pre .fits) (p .ensures .1) (c .before .before .put-head .ensures)
 
 pub put-report-spec : {M : Type 1} → statement M
