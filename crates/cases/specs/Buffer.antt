@@ -6,7 +6,7 @@ use lib.Dec.{T}
 use lib.ListN.{replicate}
 use Rattle.words.specs.Words.{every}
 use Rattle.report.specs.Answer.{reportOf, answerOf, writtenBy}
-use Rattle.cases.specs.Sums.{t2}
+use Rattle.examples.specs.Build.{t2}
 use Rattle.examples.specs.Table.{publishedBytes, same, accepted, turned}
 use Rattle.examples.specs.Opened.{reportComputed}
 

@@ -6,16 +6,13 @@ use lib.ListN.{length}
 use Rattle.words.specs.Words.{every}
 use Rattle.book.specs.Build.{asset, mitigant, bookBytes}
 use Rattle.figures.specs.Read.{groupExcessIn, chargeIn}
-use Rattle.examples.specs.Build.{plain, reinsured, entered, usual, name, gradedName, bank, registered}
+use Rattle.examples.specs.Build.{plain, reinsured, entered, usual, t2, name, gradedName, bank, registered}
 use Rattle.examples.specs.Reading.{vafIn, vaf′In, a3SumIn, a3LimitIn, printed, line}
 use Rattle.examples.specs.Table.{Case, case, right}
 use Rattle.examples.specs.Opened.{reportComputed}
 
 abbrev charges : List ℕ → List ℕ
 charges r = chargeIn r ∷ []
-
-abbrev pub t2 : List ℕ
-t2 = usual (name ∷ []) (plain 11 1 300000000 ∷ plain 6 1 300000000 ∷ []) []
 
 abbrev t3 : ℕ → List ℕ
 t3 value = usual (name ∷ []) (plain 11 1 value ∷ []) []

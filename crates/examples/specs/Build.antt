@@ -2,7 +2,8 @@
 --   name gradedName bank registered     counterparties without flags and parent
 --   covered plain reinsured entered     assets
 --   minus usual specialist              a base below 0; the usual book, and one that is a specialist fund's
-use mathlib.Core.List.{List}
+--   t2                                  document 01's T2
+use mathlib.Core.List.{List, [], _∷_}
 use Prim.Native.Nat.{ℕ, _-_}
 use Rattle.book.specs.Build.{counterparty, asset, bookBytes, specialistBytes}
 
@@ -44,3 +45,7 @@ usual counterparties assets mitigants = bookBytes 10_000_000_000 1_000_000_000 0
 
 abbrev pub specialist : List (List ℕ) → List (List ℕ) → List (List ℕ) → List ℕ
 specialist counterparties assets mitigants = specialistBytes 10_000_000_000 1_000_000_000 0 counterparties assets mitigants
+
+-- "kind 11 and kind 6, one ungraded name, 300000000 each"
+abbrev pub t2 : List ℕ
+t2 = usual (name ∷ []) (plain 11 1 300000000 ∷ plain 6 1 300000000 ∷ []) []
