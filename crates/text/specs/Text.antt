@@ -2,19 +2,21 @@
 --   ascii          the bytes of a quoted text
 --   decimal        a number in decimal digits
 --   lineText chargeText refusedText   a printed line of each sort
---   lineAt linesText linesIn reportText   what is printed of a report, read off its bytes
+--   reportText     what is printed of a report's lines and its charge
 --   answerText     what is printed of an answer
+--   linesRead      the lines that stand in a report's bytes
+--   lineRoom       room for any printed line
 use mathlib.Core.List.{List, [], _∷_, _++_}
-use Prim.Native.Nat.{ℕ, zero, suc, _+_, _*_, _-_, _/_, _%_, min}
+use Prim.Native.Nat.{ℕ, zero, suc, _+_, _/_, _%_}
 use Prim.Native.Char.{code}
 use Prim.Native.String.{String}
 use Prim.Native.String.{[] as String·[], _∷_ as _String·∷_}
-use lib.ListN.{length}
-use Rattle.words.specs.Words.{_<?_, if_then_else_}
+use Rattle.words.specs.Words.{_<?_, if_then_else_, eachOf}
 use Rattle.refusal.specs.declared.Answer.{Answer}
 use Rattle.refusal.specs.declared.Answer.the-variants.{Written, Refused}
 use Rattle.refusal.specs.Refusals.{numberOf, placeOf}
-use Rattle.wire.specs.Bytes.{byteAt, u16At, u64At}
+use Rattle.figures.specs.declared.Line.{Line}
+use Rattle.figures.specs.Read.{lineAt}
 
 -- the bytes of a quoted text, a character to a byte
 abbrev pub ascii : String → List ℕ
@@ -35,19 +37,19 @@ unfoldable pub decimal : ℕ → List ℕ
 decimal n = decimalBy 19 n
 
 -- "prints top, tier and the four amounts per line"
-unfoldable pub lineText : ℕ → ℕ → ℕ → ℕ → ℕ → ℕ → List ℕ
-lineText top tier exposure limit left excess =
-    decimal top
+unfoldable pub lineText : Line → List ℕ
+lineText x =
+    decimal (x .top)
     ++ ascii " "
-    ++ decimal tier
+    ++ decimal (x .tier)
     ++ ascii " "
-    ++ decimal exposure
+    ++ decimal (x .exposure)
     ++ ascii " "
-    ++ decimal limit
+    ++ decimal (x .limit)
     ++ ascii " "
-    ++ decimal left
+    ++ decimal (x .left)
     ++ ascii " "
-    ++ decimal excess
+    ++ decimal (x .excess)
     ++ ascii "\n"
 
 -- "last "charge N""
@@ -58,24 +60,20 @@ chargeText charge = ascii "charge " ++ decimal charge ++ ascii "\n"
 unfoldable pub refusedText : ℕ → ℕ → List ℕ
 refusedText number place = ascii "refused " ++ decimal number ++ ascii " " ++ decimal place ++ ascii "\n"
 
--- what is printed of the line that stands from `at` on: "u16 top place, tier byte, zero, u16 set of the group's tiers, two zeros, u64 exposure, limit, left, excess"
-unfoldable pub lineAt : List ℕ → ℕ → List ℕ
-lineAt r at = lineText (u16At r at) (byteAt r (at + 2)) (u64At r (at + 8)) (u64At r (at + 16)) (u64At r (at + 24)) (u64At r (at + 32))
+-- "prints top, tier and the four amounts per line, last "charge N""
+unfoldable pub reportText : List Line → ℕ → List ℕ
+reportText lines charge = eachOf lineText lines ++ chargeText charge
 
--- what is printed of the first n lines: "Header, 72 bytes", "Lines of 40"
-unfoldable pub linesText : List ℕ → ℕ → List ℕ
-linesText r zero = []
-linesText r (suc n) = linesText r n ++ lineAt r (72 + 40 * n)
+-- what is printed of an answer, with the report's lines and its charge
+abbrev pub answerText : Answer → List Line → ℕ → List ℕ
+answerText (Written length) lines charge = reportText lines charge
+answerText (Refused why) lines charge = refusedText (numberOf why) (placeOf why)
 
--- how many lines a report has: "u16 lines", at 6, as far as there are bytes for them
-abbrev pub linesIn : List ℕ → ℕ
-linesIn r = min (u16At r 6) ((length r - 72) / 40)
+-- the first n lines of the report R, read off its bytes
+unfoldable pub linesRead : List ℕ → ℕ → List Line
+linesRead R zero = []
+linesRead R (suc n) = linesRead R n ++ (lineAt R n ∷ [])
 
--- "prints top, tier and the four amounts per line, last "charge N""; the header has the charge at 64
-unfoldable pub reportText : List ℕ → List ℕ
-reportText r = linesText r (linesIn r) ++ chargeText (u64At r 64)
-
--- what is printed of an answer, with r the buffer that was lent for the report
-abbrev pub answerText : Answer → List ℕ → List ℕ
-answerText (Written length) r = reportText r
-answerText (Refused why) r = refusedText (numberOf why) (placeOf why)
+-- no printed line is longer: six numbers, each with the byte that ends it
+abbrev pub lineRoom : ℕ
+lineRoom = 128

@@ -1,12 +1,20 @@
-// What the desk prints: the text of an answer, written into a lent buffer.
-use refusal::Answer;
+// What the desk prints, written into a lent buffer: the text of a report, or of a refusal.
+use figures::Line;
+use refusal::Refusal;
 ghost use mathlib.Core.Path.{_≡_};
 ghost use mathlib.Core.List.{_∷_, [], _++_};
-ghost use Prim.Native.Nat.{_+_, _*_, _/_, _≤_};
+ghost use Prim.Native.Nat.{_+_, _*_, _≤_};
 ghost use lib.ListN.{length};
-ghost use Rattle.io.specs.Counts.{Counts};
-ghost use Rattle.text.specs.Text.{decimal, lineText, chargeText, refusedText, lineAt, linesIn, reportText, answerText};
+ghost use Rattle.refusal.specs.Refusals.{numberOf, placeOf};
+ghost use Rattle.figures.specs.Report.{headSize, lineSize};
+ghost use Rattle.figures.specs.Read.{lineFrom, linesIn, chargeIn};
+ghost use Rattle.text.specs.Text.{decimal, lineText, chargeText, refusedText, reportText, linesRead, lineRoom};
 ghost use Rattle.text.specs.Written.{Written};
+
+// Where a report's header has the number of its lines, and the charge.
+const LINES_AT: usize = 6;
+
+const CHARGE_AT: usize = 64;
 
 // All of s, put at a place. Each function here answers the place behind what it put.
 fn put(out: &mut [u8], at: usize, s: &[u8]) -> usize
@@ -44,102 +52,71 @@ fn put_number(out: &mut [u8], at: usize, n: u64, end: u8) -> usize
 }
 
 // A printed line: top, tier and the four amounts.
-fn put_line(
-    out: &mut [u8],
-    at: usize,
-    top: u16,
-    tier: u8,
-    exposure: u64,
-    limit: u64,
-    left: u64,
-    excess: u64,
-) -> usize
-    requires { ⌜ at + 128 ≤ length (now out) ⌝ }
-    ensures { λ r. ⌜ Written (now (out .entry)) at (lineText top tier exposure limit left excess) (now (out .exit)) r ⌝ }
-    ensures { λ r. ⌜ r ≤ at + 128 ⌝ }
+fn put_line(out: &mut [u8], at: usize, line: Line) -> usize
+    requires { ⌜ at + lineRoom ≤ length (now out) ⌝ }
+    ensures { λ r. ⌜ Written (now (out .entry)) at (lineText line) (now (out .exit)) r ⌝ }
+    ensures { λ r. ⌜ r ≤ at + lineRoom ⌝ }
 {
-    let a = put_number(out, at, top as u64, b' ');
-    let b = put_number(out, a, tier as u64, b' ');
-    let c = put_number(out, b, exposure, b' ');
-    let d = put_number(out, c, limit, b' ');
-    let e = put_number(out, d, left, b' ');
-    put_number(out, e, excess, b'\n')
+    let a = put_number(out, at, line.top as u64, b' ');
+    let b = put_number(out, a, line.tier as u64, b' ');
+    let c = put_number(out, b, line.exposure, b' ');
+    let d = put_number(out, c, line.limit, b' ');
+    let e = put_number(out, d, line.left, b' ');
+    put_number(out, e, line.excess, b'\n')
 }
 
 // The last line of a report.
 fn put_charge(out: &mut [u8], at: usize, charge: u64) -> usize
-    requires { ⌜ at + 128 ≤ length (now out) ⌝ }
+    requires { ⌜ at + lineRoom ≤ length (now out) ⌝ }
     ensures { λ r. ⌜ Written (now (out .entry)) at (chargeText charge) (now (out .exit)) r ⌝ }
-    ensures { λ r. ⌜ r ≤ at + 128 ⌝ }
+    ensures { λ r. ⌜ r ≤ at + lineRoom ⌝ }
 {
     let a = put(out, at, b"charge ");
     put_number(out, a, charge, b'\n')
 }
 
 // The line of a report that stands from `from` on.
-fn put_line_at(out: &mut [u8], at: usize, report: &[u8], from: usize) -> usize
-    requires { ⌜ at + 128 ≤ length (now out) ⌝ }
-    requires { ⌜ from + 40 ≤ length (now report) ⌝ }
-    ensures { λ r. ⌜ Written (now (out .entry)) at (lineAt (now (report .entry)) from) (now (out .exit)) r ⌝ }
-    ensures { λ r. ⌜ r ≤ at + 128 ⌝ }
+fn line_from(report: &[u8], from: usize) -> Line
+    requires { ⌜ from + lineSize ≤ length (now report) ⌝ }
+    ensures { λ r. ⌜ r ≡ lineFrom (now (report .entry)) from ⌝ }
 {
-    let top = wire::u16_at(report, from);
-    let tier = report[from + 2];
-    let exposure = wire::u64_at(report, from + 8);
-    let limit = wire::u64_at(report, from + 16);
-    let left = wire::u64_at(report, from + 24);
-    let excess = wire::u64_at(report, from + 32);
-    put_line(out, at, top, tier, exposure, limit, left, excess)
+    Line {
+        top: wire::u16_at(report, from),
+        tier: report[from + 2],
+        tiers: wire::u16_at(report, from + 4),
+        exposure: wire::u64_at(report, from + 8),
+        limit: wire::u64_at(report, from + 16),
+        left: wire::u64_at(report, from + 24),
+        excess: wire::u64_at(report, from + 32),
+    }
 }
 
-// How many lines a report has.
-fn lines_in(report: &[u8]) -> usize
-    requires { ⌜ 72 ≤ length (now report) ⌝ }
-    ensures { λ r. ⌜ r ≡ linesIn (now (report .entry)) ⌝ }
-{
-    let named = wire::u16_at(report, 6) as usize;
-    let held = (report.len() - 72) / 40;
-    if named < held { named } else { held }
-}
-
-// A report's lines and its charge, from the buffer's start.
-fn put_report(out: &mut [u8], report: &[u8]) -> usize
-    requires { ⌜ 72 ≤ length (now report) ⌝ }
-    requires { ⌜ 128 * (length (now report) / 40) ≤ length (now out) ⌝ }
-    ensures { λ r. ⌜ Written (now (out .entry)) 0 (reportText (now (report .entry))) (now (out .exit)) r ⌝ }
+// A report's lines and its charge, from the buffer's start. The report may have any bytes behind it.
+pub fn put_report(out: &mut [u8], report: &[u8]) -> usize
+    requires { ⌜ headSize + lineSize * linesIn (now report) ≤ length (now report) ⌝ }
+    requires { ⌜ lineRoom * linesIn (now report) + lineRoom ≤ length (now out) ⌝ }
+    ensures { λ r. ⌜ Written (now (out .entry)) 0 (reportText (linesRead (now (report .entry)) (linesIn (now (report .entry)))) (chargeIn (now (report .entry)))) (now (out .exit)) r ⌝ }
     ensures { λ r. ⌜ r ≤ length (now (out .exit)) ⌝ }
 {
-    let lines = lines_in(report);
+    let lines = wire::u16_at(report, LINES_AT) as usize;
     let mut at = 0;
     let mut i = 0;
     while i < lines {
-        at = put_line_at(out, at, report, 72 + 40 * i);
+        at = put_line(out, at, line_from(report, layout::HEAD + layout::LINE * i));
         i += 1;
     }
-    put_charge(out, at, wire::u64_at(report, 64))
+    put_charge(out, at, wire::u64_at(report, CHARGE_AT))
 }
 
 // A refusal's number and place, from the buffer's start.
-fn put_refusal(out: &mut [u8], number: u64, place: u64) -> usize
-    requires { ⌜ 128 ≤ length (now out) ⌝ }
-    ensures { λ r. ⌜ Written (now (out .entry)) 0 (refusedText number place) (now (out .exit)) r ⌝ }
+pub fn put_refusal(out: &mut [u8], why: Refusal) -> usize
+    requires { ⌜ lineRoom ≤ length (now out) ⌝ }
+    ensures { λ r. ⌜ Written (now (out .entry)) 0 (refusedText (numberOf why) (placeOf why)) (now (out .exit)) r ⌝ }
     ensures { λ r. ⌜ r ≤ length (now (out .exit)) ⌝ }
 {
+    let number = refusal::number(why);
+    let place = refusal::place(why);
     let a = put(out, 0, b"refused ");
     let b = put_number(out, a, number, b' ');
     put_number(out, b, place, b'\n')
-}
-
-// The text of an answer, from the buffer's start, and its length. The report is the buffer that was lent for it, and 128 bytes of text are
-// enough for 40 of it.
-pub fn answer(out: &mut [u8], answer: Answer, report: &[u8]) -> usize
-    requires { ⌜ 72 ≤ length (now report) ⌝ }
-    requires { ⌜ 128 * (length (now report) / 40) ≤ length (now out) ⌝ }
-    ensures { λ r. ⌜ Written (now (out .entry)) 0 (answerText answer (now (report .entry))) (now (out .exit)) r ⌝ }
-    ensures { λ r. ⌜ Counts r (now (out .exit)) ⌝ }
-{
-    match answer {
-        Answer::Written(_) => put_report(out, report),
-        Answer::Refused(why) => put_refusal(out, refusal::number(why), refusal::place(why)),
-    }
 }

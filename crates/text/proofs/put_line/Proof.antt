@@ -14,9 +14,9 @@ returns c =
     let c4 = c5 .before .before .before .before in
     let c3 = c4 .before .before .before .before in
     let c2 = c3 .before .before .before .before in
-    let c1 = c2 .before .before .before .before in
-    let s = c1 .before .before .before in
-    let a = s .args in
+    let c1 = c2 .before .before .before .before .before in
+    let s = c1 .before .before .before .before in
+    let a = s .args .line in
     let n1 = c1 .put-number .ensures .1 in
     let n2 = c2 .put-number2 .ensures .1 in
     let n3 = c3 .put-number3 .ensures .1 in
@@ -35,7 +35,9 @@ pub put-line-spec : {M : Type 1} → statement M
 put-line-spec =
     tie.close
     (tie.spec
+    (λ c. search needs)
     (λ c κs. search needs)
+    (λ c. search needs)
     (λ c κs. search needs)
     (λ c κs. search needs)
     (λ c κs. search needs)

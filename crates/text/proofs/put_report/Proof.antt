@@ -1,42 +1,40 @@
 -- `text::put_report` meets its contract: the lines one behind the other, then the charge.
 use borrow.Author.Needs.{needs}
 use mathlib.Core.Path.{_≡_, refl}
-use Prim.Native.Nat.{_+_, _*_, _-_, _≤_}
+use Prim.Native.Nat.{_*_, _-_, _≤_}
 use native.Mathlib.Numerals.{add-one}
 use native.Mathlib.Omega.{arith}
 use lib.ListN.{length}
-use Rattle.wire.specs.Bytes.{u64At}
-use Rattle.text.specs.Text.{chargeText, lineAt, linesText, linesIn, reportText}
+use Rattle.words.specs.Words.{eachOf}
+use Rattle.figures.specs.Read.{linesIn, chargeIn, lineAt}
+use Rattle.text.specs.Text.{lineText, chargeText, reportText, linesRead, lineRoom}
 use Rattle.text.specs.Written.{Written}
-use Rattle.text.proofs.Laws.{then-written}
+use Rattle.text.proofs.Laws.{then-written, lines-next}
 use Rattle.text.proofs.put_report.Statement.{statement}
 use Rattle.text.proofs.put_report.Tie as tie
 
 abbrev Inv-loop : tie.InvT-loop
 Inv-loop out₀ report lines at₀ i₀ out at i =
-    (i ≤ lines) × (lines ≡ linesIn report) × (at ≤ 128 * i) × Written out₀ 0 (linesText report i) out at × (length out ≡ length out₀)
+    (i ≤ lines) × (lines ≡ linesIn report) × (at ≤ lineRoom * i) × Written out₀ 0 (eachOf lineText (linesRead report i)) out at × (length out ≡ length out₀)
 
 abbrev μ-loop : tie.MeasureT-loop
 μ-loop out₀ report lines at₀ i₀ out at i = lines - i
 
 loop-holds : tie.Need-loop-holds Inv-loop μ-loop
-unfolding linesText
-loop-holds c = (omega arith, c .lines-in .ensures, omega arith, record { bytes = refl; place = refl }, refl)
-
-put-line-at-requires : tie.Need-put-line-at-requires Inv-loop μ-loop
-put-line-at-requires c κs = (omega arith, omega arith)
+unfolding linesRead eachOf
+loop-holds c = (omega arith, c .u16-at .ensures, omega arith, record { bytes = refl; place = refl }, refl)
 
 loop-again : tie.Need-loop-again Inv-loop μ-loop
-unfolding linesText
 loop-again c =
-    let p = c .before .before .put-line-at in
-    let l = c .before .before .before .before .before in
+    let p = c .before .before .put-line in
+    let l = c .before .before .before .before .before .before in
     let report = l .before .before .before .before .args .report .now in
     let i = l .loop .i in (
       omega arith,
       l .loop .inv .1,
       omega arith,
-      rw add-one (then-written (linesText report i) (lineAt report (72 + 40 * i)) (l .loop .inv .3) (p .ensures .0) (omega arith)),
+      rw (add-one, lines-next report i)
+          (then-written (eachOf lineText (linesRead report i)) (lineText (lineAt report i)) (l .loop .inv .3) (rw (c .before .before .before .line-from .ensures) at (p .ensures .0)) (omega arith)),
       omega arith,
     )
 
@@ -48,7 +46,7 @@ returns c =
     let l = u .before .before .before in
     let report = l .before .before .before .before .args .report .now in
     let e : l .loop .i ≡ linesIn report = omega arith in (
-      then-written (linesText report (linesIn report)) (chargeText (u64At report 64)) (rw e at (l .loop .inv .3)) (rw (u .u64-at .ensures) at (p .put-charge .ensures .0)) (omega arith),
+      then-written (eachOf lineText (linesRead report (linesIn report))) (chargeText (chargeIn report)) (rw e at (l .loop .inv .3)) (rw (u .u64-at .ensures) at (p .put-charge .ensures .0)) (omega arith),
       omega arith,
     )
 
@@ -58,11 +56,13 @@ put-report-spec =
     (tie.spec
     Inv-loop
     μ-loop
-    (λ c κs. search needs)
+    (λ c κs. omega arith)
+    (λ c. search needs)
     loop-holds
     (λ c. omega arith)
     (λ c. omega arith)
-    put-line-at-requires
+    (λ c κs. omega arith)
+    (λ c κs. omega arith)
     (λ c. omega arith)
     (λ c. omega arith)
     loop-again

@@ -1,4 +1,4 @@
--- `desk::answer` meets its contract: the input, cut after the schedule.
+-- `printing::answer` meets its contract: the input, cut after the schedule.
 use borrow.Author.Needs.{needs}
 use mathlib.Core.Bool.{Bool, true, false}
 use mathlib.Core.Path.{_≡_, refl, sym, ap, subst₂, _∙_}
@@ -10,8 +10,8 @@ use lib.ListN.{length, take, drop, length-drop, drop-of-length-le}
 use lib.Seq.{take-all}
 use borrow.Author.Tests.{leb-true, leb-false}
 use Rattle.report.specs.Answer.{Answered}
-use Rattle.desk.proofs.answer.Statement.{statement}
-use Rattle.desk.proofs.answer.Tie as tie
+use Rattle.printing.proofs.answer.Statement.{statement}
+use Rattle.printing.proofs.answer.Tie as tie
 
 -- the first 122 bytes, and what stands behind them, cut where a shorter list ends
 module _ (l : List ℕ) (n : ℕ) (e : n ≡ min (length l) 122) where
@@ -34,7 +34,7 @@ returns c =
     let p = c .before .before .report in
     let s = c .before .before .before .before .before .before .before .before .before .args in
     let n = c .before .before .before .before .before .before .schedule-end in
-    subst₂ (λ (x y : List ℕ). Answered x y (s .lent .now) (p .last .1 .1 .0) (p .result)) (first (s .input .now) (n .result) (n .ensures .1)) (rest (s .input .now) (n .result) (n .ensures .1)) (p .ensures)
+    subst₂ (λ (x y : List ℕ). Answered x y (s .report .now) (p .last .1 .1 .0) (p .result)) (first (s .input .now) (n .result) (n .ensures .1)) (rest (s .input .now) (n .result) (n .ensures .1)) (p .ensures)
 
 pub answer-spec : {M : Type 1} → statement M
 answer-spec =

@@ -1,10 +1,10 @@
--- `desk::schedule_end` meets its contract.
+-- `printing::schedule_end` meets its contract.
 use mathlib.Core.Path.{sym}
 use native.Mathlib.Omega.{arith}
 use lib.ListN.{length}
 use lib.Seq.{length-take-le}
-use Rattle.desk.proofs.schedule_end.Statement.{statement}
-use Rattle.desk.proofs.schedule_end.Tie as tie
+use Rattle.printing.proofs.schedule_end.Statement.{statement}
+use Rattle.printing.proofs.schedule_end.Tie as tie
 
 returns : tie.Need-returns
 returns c =
