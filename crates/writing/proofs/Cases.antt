@@ -6,7 +6,7 @@ use mathlib.Core.List.{List, [], _∷_, _++_}
 use Prim.Native.Nat.{ℕ}
 use lib.ListN.{replicate}
 use Rattle.words.specs.Words.{sum, eachOf, those, countFrom}
-use Rattle.cascade.specs.Cascade.{tiers, byTier, byLimit, ranks as cascade-ranks, insert, ranked, next, standing, left, excess, excessSum}
+use Rattle.cascade.specs.Cascade.{tiers, byTier, byLimit, ranks, insert, ranked, next, standing, left, excess, excessSum}
 use Rattle.figures.specs.declared.Line.{Line}
 use Rattle.figures.specs.declared.Figures.{Figures}
 use Rattle.figures.specs.Report.{lineBytes, tierSet, lineOf, cellLines, linesOf, groupExcess, charge}
@@ -49,18 +49,18 @@ abbrev lines : List Line
 lines = first ∷ second ∷ []
 
 t2-lines : linesOf (tableFund order (table .limits) (table .cells) (table .heads) 4 2 figures) ≡ lines
-unfolding cascade-ranks insert ranked next standing left excess sum eachOf countFrom tierSet lineOf cellLines row tableFund
+unfolding ranks insert ranked next standing left excess sum eachOf countFrom tierSet lineOf cellLines row tableFund
 t2-lines = refl
 
 -- tier 2 is of rank 3
 t2-listed : (entriesOf (table .cells) 2 by-rank ≡ 16 ∷ 18 ∷ []) × (tried (shownBy (table .cells) by-rank) 0 (allEntries 2 allRanks) (1 ∷ 2 ∷ 3 ∷ 4 ∷ []) ≡ 16 ∷ 19 ∷ 31 ∷ 4 ∷ []) × (listedLines table (16 ∷ 19 ∷ 31 ∷ 4 ∷ []) 2 ≡ lines)
-unfolding cascade-ranks insert ranked next eachOf those countFrom tried entryLine linesAlong
+unfolding ranks insert ranked next eachOf those countFrom tried entryLine linesAlong
 t2-listed = (refl, refl, refl)
 
 t2-charge :
     (setOf (row (table .cells) 1) ≡ 5) × (groupExcess (tableFund order (table .limits) (table .cells) (table .heads) 4 2 figures) ≡ 100000000)
     × (charge (tableFund order (table .limits) (table .cells) (table .heads) 4 2 figures) ≡ 100000002)
-unfolding cascade-ranks insert ranked next standing left excess excessSum sum groupExcess charge row setOf tableFund
+unfolding ranks insert ranked next standing left excess excessSum sum groupExcess charge row setOf tableFund
 t2-charge = (refl, refl, refl)
 
 -- among bytes of 7: those before the line and the one behind it stay, its own are put over the others, the zeros too
