@@ -1,4 +1,4 @@
--- The loop that halves: entries below a place are halved, the others as they were.
+-- The loop that halves: entries below a place are halved, the others as they were. Behind it entry 0 is set.
 use mathlib.Core.Bool.{Bool, true, false}
 use mathlib.Core.List.{List}
 use mathlib.Core.Path.{_≡_, refl, ap, _∙_}
@@ -8,7 +8,7 @@ use lib.Dec.{eqb, ltb}
 use lib.ListN.{length, getD, set, length-set, List·getD-eq-default}
 use lib.Seq.{getD-set-same, getD-set-other}
 use borrow.Author.Tests.{eqb-true, eqb-false, ltb-true, ltb-false}
-use Rattle.assets.specs.Halves.{Halved}
+use Rattle.assets.specs.Halves.{endless, Halved}
 
 pub record Halving (before t : List ℕ) (place : ℕ) : Type 0 where
   pub size : length t ≡ length before
@@ -32,8 +32,13 @@ module _ {before t : List ℕ} {place : ℕ} (k : Halving before t place) where
       by q l false z = let n = eqb-false q place z in getD-set-other t place q (getD t place 0 / 2) 0 n ∙ k .below q (omega arith)
 
   -- past the end both are 0
-  pub halving-end : length t ≤ place → Halved before t
-  halving-end h = record { size = k .size; each = λ q. by q (ltb q place) refl }
+  pub halving-end : length t ≤ place → 0 < length before → Halved before (set t 0 endless)
+  halving-end h l =
+      record {
+        size = rw length-set (k .size);
+        of-nobody = getD-set-same t 0 endless 0 (omega (arith, k .size));
+        each = λ q g. getD-set-other t 0 q endless 0 (λ e. omega arith) ∙ by q (ltb q place) refl;
+      }
     where
       by : (q : ℕ) (s : Bool) → ltb q place ≡ s → getD t q 0 ≡ getD before q 0 / 2
       by q true z = k .below q (ltb-true q place z)

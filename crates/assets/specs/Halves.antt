@@ -1,20 +1,23 @@
--- The table of halves, by counterparty (C-18): the nets of its treaties added up, then every entry halved.
+-- The table of halves, by counterparty (C-18): the nets of its treaties added up, then every entry halved. Entry 0 is nobody's half: whoever has none draws on it.
 --   withNet added     a table with one asset's net more, and with those of some assets
---   Halved         a table with every entry halved
+--   endless        nobody's half
+--   Halved         a table with every entry halved, and nobody's half at 0
+--   endless-enough           law: all that there is of a book's assets is no more
 --   added-length added-at    laws: as long as it was; each entry with "the sum of that counterparty's unlinked reinsurance nets" more
 --   halves-are     out of zeros, each counterparty's half
 use mathlib.Core.Bool.{Bool, true, false, not, _&&_}
 use mathlib.Core.List.{List}
 use mathlib.Core.Path.{_≡_, refl, sym, ap, _∙_}
-use Prim.Native.Nat.{ℕ, zero, suc, _+_, _/_, _≤_, _<_}
+use Prim.Native.Nat.{ℕ, zero, suc, _+_, _*_, _/_, _≤_, _<_}
 use native.Mathlib.Omega.{arith}
 use lib.Dec.{eqb}
 use lib.ListN.{length, getD, set, length-set}
 use lib.Seq.{getD-set-same, getD-set-other}
 use borrow.Author.Tests.{eqb-true, eqb-false}
 use Rattle.words.specs.Words.{_=?_, if_then_else_, sumOf}
+use Rattle.wire.specs.Bytes.{M}
 use Rattle.book.specs.declared.Asset.{Asset}
-use Rattle.book.specs.Records.{C, N, assetAt}
+use Rattle.book.specs.Records.{mostAssets, C, N, assetAt}
 use Rattle.book.specs.Fields.{linked, reinsurance}
 use Rattle.book.specs.Book.{Holding, holdingsFrom, bookOf}
 use Rattle.book.specs.Accepted.{Accepted}
@@ -30,11 +33,19 @@ unfoldable pub added : List ℕ → List ℕ → ℕ → ℕ → List ℕ
 added b t place zero = t
 added b t place (suc more) = added b (withNet t (assetAt b place)) (place + 1) more
 
+-- 2^62, which is never used up: a book has at most 900 assets of at most M = 10^13 each, together 9 · 10^15
+abbrev pub endless : ℕ
+endless = 4_611_686_018_427_387_904
+
 pub record Halved (before after : List ℕ) : Type 0 where
   pub size : length after ≡ length before
-  pub each : (place : ℕ) → getD after place 0 ≡ getD before place 0 / 2
+  pub of-nobody : getD after 0 0 ≡ endless
+  pub each : (place : ℕ) → 0 < place → getD after place 0 ≡ getD before place 0 / 2
 
 -- ---- laws
+
+pub endless-enough : mostAssets * M ≤ endless
+endless-enough = omega arith
 
 pub added-length : (b : List ℕ) (more place : ℕ) (t : List ℕ) → length (added b t place more) ≡ length t
 unfolding added
@@ -75,6 +86,6 @@ module _ (b : List ℕ) (acc : Accepted b) where
       )
 
   pub halves-are : (t : List ℕ) {u : List ℕ} → C b < length t → ((q : ℕ) → _≡_ {A = ℕ} (getD t q 0) 0) → Halved (added b t 1 (N b)) u
-      → (q : ℕ) → getD u q 0 ≡ halfOf (bookOf b .holdings) q
+      → (q : ℕ) → 0 < q → getD u q 0 ≡ halfOf (bookOf b .holdings) q
   unfolding halfOf bookOf
-  halves-are t g none k q = k .each q ∙ ap (λ (n : ℕ). n / 2) (omega (arith, added-at (N b) 1 1 t (omega arith) (omega arith) g q, none q))
+  halves-are t g none k q l = k .each q l ∙ ap (λ (n : ℕ). n / 2) (omega (arith, added-at (N b) 1 1 t (omega arith) (omega arith) g q, none q))

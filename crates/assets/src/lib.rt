@@ -111,8 +111,12 @@ pub fn treaty_draws(a: Asset, terms: u64) -> u16
     choice::number(columns::half_of(terms) == 1, a.counterparty, 0)
 }
 
-// Every entry of a table halved.
+// 2^62, above all that a book's assets can be together.
+const ENDLESS: u64 = 4_611_686_018_427_387_904;
+
+// Every entry of a table halved; then entry 0, nobody's half, endless.
 pub fn halve(sums: &mut [u64])
+    requires { ⌜ 0 < length (now sums) ⌝ }
     ensures { λ _. ⌜ Halved (now (sums .entry)) (now (sums .exit)) ⌝ }
 {
     let mut place = 0;
@@ -120,4 +124,5 @@ pub fn halve(sums: &mut [u64])
         sums[place] /= 2;
         place += 1;
     }
+    sums[0] = ENDLESS;
 }

@@ -1,4 +1,3 @@
-mod Lesser
 mod Part
 mod Run
 mod Running

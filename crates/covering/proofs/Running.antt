@@ -1,13 +1,9 @@
 -- What the loop over the mitigants holds: what is to come, run on the tables as they are, gives what all of it gives on those of the start.
-use mathlib.Core.Bool.{Bool, true, false}
 use mathlib.Core.List.{List}
-use mathlib.Core.Path.{_≡_, refl, sym, ap, fun-ext, _∙_}
-use Prim.Native.Nat.{ℕ, suc, _+_, _-_, _/_, _%_, _≤_, _<_, max}
+use mathlib.Core.Path.{_≡_, refl, sym, ap, _∙_}
+use Prim.Native.Nat.{ℕ, suc, _+_, _*_, _-_, _/_, _%_, _≤_, _<_, min, max}
 use native.Mathlib.Omega.{arith}
-use lib.Dec.{eqb}
 use lib.ListN.{length, getD, set, length-set}
-use lib.Seq.{getD-set-same, getD-set-other}
-use borrow.Author.Tests.{eqb-true, eqb-false}
 use Rattle.words.specs.Words.{if_then_else_}
 use Rattle.wire.specs.Bytes.{M}
 use Rattle.book.specs.Records.{C, N, K, counterpartyAt, assetAt}
@@ -17,11 +13,15 @@ use Rattle.book.specs.Check.{countsAdd}
 use Rattle.book.specs.Accepted.{Accepted}
 use Rattle.exposure.specs.Parts.{halfOf}
 use Rattle.assets.specs.Marks.{ownerBy}
-use Rattle.covering.specs.Covered.{drawnOff, byPlace, heldBy}
-use Rattle.covering.specs.Pass.{Coverable, Covers}
+use Rattle.assets.specs.Halves.{endless-enough}
+use Rattle.covering.specs.Covered.{drawnOff, heldBy}
+use Rattle.covering.specs.Pass.{Offers, Coverable, Covers}
 use Rattle.covering.specs.Owners.{OwnerFits, mark-odd, owner-next, inside}
-use Rattle.covering.specs.Start.{rest-le}
-use Rattle.covering.proofs.Run.{Tables, less, partAt, stillAt, run, drawn-length, draws-le, run-all}
+use Rattle.covering.proofs.Run.{Tables, Leaves, partAt, stillAt, run, draws-le, run-all}
+
+-- a table as the function of the place
+abbrev byPlace : List ℕ → ℕ → ℕ
+byPlace t place = getD t place 0
 
 abbrev tables : List ℕ → List ℕ → List ℕ → Tables
 tables covered halves rests = record { covered = covered; halves = halves; rests = rests }
@@ -33,12 +33,11 @@ pub record Running (b starts draws covered₀ halves₀ rests₀ covered halves 
   pub halves-size : length halves ≡ length halves₀
   pub rests-size : length rests ≡ length rests₀
   pub owner : own ≡ ownerBy starts (place - 1)
-  pub fit : (p : ℕ) → 0 < p → p ≤ N b → getD rests p 0 ≤ M
   pub coming : run b (ownerBy starts) (byPlace draws) place (K b + 1 - place) (tables covered halves rests) ≡ run b (ownerBy starts) (byPlace draws) 1 (K b) (tables covered₀ halves₀ rests₀)
 
-pub running-start : {b starts draws covered halves rests : List ℕ} → Accepted b → Coverable b starts draws halves rests → Running b starts draws covered halves rests covered halves rests 0 1
+pub running-start : (b starts draws covered halves rests : List ℕ) → Running b starts draws covered halves rests covered halves rests 0 1
 unfolding ownerBy
-running-start {b} acc r =
+running-start b starts draws covered halves rests =
     let d : K b + 1 - 1 ≡ K b = omega arith in
     record {
       started = omega arith;
@@ -47,16 +46,8 @@ running-start {b} acc r =
       halves-size = refl;
       rests-size = refl;
       owner = refl;
-      fit = λ p l h. rw (r .there p l h) (rest-le (C b) (assetAt b p) (acc .asset p l h));
       coming = rw d;
     }
-
-less-le : (t : List ℕ) (o part n p : ℕ) → o < length t → getD t p 0 ≤ n → getD (less t o part) p 0 ≤ n
-less-le t o part n p l h = by (eqb p o) refl
-  where
-    by : (s : Bool) → eqb p o ≡ s → getD (less t o part) p 0 ≤ n
-    by true z = let e = eqb-true p o z in rw (e, getD-set-same t o (getD t o 0 - part) 0 l) (omega (arith, rw e at h))
-    by false z = rw (getD-set-other t o p (getD t o 0 - part) 0 (eqb-false p o z)) h
 
 module _ {b starts draws covered₀ halves₀ rests₀ covered halves rests : List ℕ} {own place : ℕ} (k : Running b starts draws covered₀ halves₀ rests₀ covered halves rests own place) (acc : Accepted b) (r : Coverable b starts draws halves₀ rests₀) where
   module _ (h : place ≤ K b) {now : ℕ} (en : now ≡ max own (getD starts place 0)) where
@@ -73,7 +64,7 @@ module _ {b starts draws covered₀ halves₀ rests₀ covered halves rests : Li
     pub own-inside : now / 2 ≤ N b
     own-inside = omega (arith, owner-fits .below)
 
-    pub own-odd : now % 2 ≡ (if reinsurance (assetAt b (now / 2)) then 1 else 0)
+    own-odd : now % 2 ≡ (if reinsurance (assetAt b (now / 2)) then 1 else 0)
     own-odd = ap (λ (n : ℕ). n % 2) (owner-fits .whole) ∙ mark-odd b (now / 2)
 
     pub draws-inside : now / 2 < length draws
@@ -90,23 +81,20 @@ module _ {b starts draws covered₀ halves₀ rests₀ covered halves rests : Li
     pub halves-inside : getD draws (now / 2) 0 < length halves
     halves-inside = omega (arith, on-inside, k .halves-size, r .halves-size)
 
-    pub rest-fits : getD rests (now / 2) 0 ≤ M
-    rest-fits = k .fit (now / 2) own-above own-inside
-
-    pub running-step : {part : ℕ} → part ≡ partAt b place (now / 2) (stillAt halves rests (now / 2) (getD draws (now / 2) 0))
-        → Running b starts draws covered₀ halves₀ rests₀ (set covered place part) (drawnOff (getD draws (now / 2) 0) part halves) (less rests (now / 2) part) now (place + 1)
+    pub running-step : {offer still part : ℕ} → Offers b place (now % 2) offer → still ≡ stillAt halves rests (now / 2) (getD draws (now / 2) 0) → part ≡ min offer still
+        → Running b starts draws covered₀ halves₀ rests₀ (set covered place part) (drawnOff (getD draws (now / 2) 0) part halves) (drawnOff (now / 2) part rests) now (place + 1)
     unfolding run
-    running-step {part} ep =
+    running-step {part = part} eo es em =
         let d : place + 1 - 1 ≡ place = omega arith in
+        let ep : part ≡ partAt b place (now / 2) (stillAt halves rests (now / 2) (getD draws (now / 2) 0)) = rw es at (em ∙ eo .part (assetAt b (now / 2)) own-odd _) in
         let m : K b + 1 - place ≡ suc (K b + 1 - (place + 1)) = omega arith in
         record {
           started = omega arith;
           within = omega arith;
           covered-size = rw length-set (k .covered-size);
-          halves-size = drawn-length (getD draws (now / 2) 0) halves part ∙ k .halves-size;
+          halves-size = rw length-set (k .halves-size);
           rests-size = rw length-set (k .rests-size);
           owner = rw d owner-now;
-          fit = λ p g i. less-le rests (now / 2) part M p rests-inside (k .fit p g i);
           coming = rw (ep, owner-now) (rw m at (k .coming));
         }
 
@@ -115,11 +103,12 @@ module _ {b starts draws covered₀ halves₀ rests₀ covered halves rests : Li
   running-end h =
       let d : K b + 1 - place ≡ 0 = omega arith in
       let whole : heldBy (holdingsFrom b 1 1 (N b)) ≡ K b = acc .counted in
-      let left : byPlace halves₀ ≡ halfOf (holdingsFrom b 1 1 (N b)) = fun-ext (r .halved) in
-      let all = run-all b (ownerBy starts) (byPlace draws) acc (N b) 1 1 (tables covered₀ halves₀ rests₀) (omega arith) (omega arith) (r .owned) (r .halves-size) (r .rests-size) (r .on) (λ p l g. r .there p (omega arith) g) in
+      let left = halfOf (holdingsFrom b 1 1 (N b)) in
+      let leaves : Leaves left (N b * M) halves₀ = record { of-nobody = omega (arith, r .of-nobody, acc .assets, endless-enough); each = r .halved } in
+      let all = run-all b (ownerBy starts) (byPlace draws) acc (N b) 1 1 left (tables covered₀ halves₀ rests₀) (omega arith) (omega arith) (r .owned) (r .halves-size) (r .rests-size) (r .on) (λ p l g. r .there p (omega arith) g) leaves in
       let end = (rw d at (k .coming)) ∙ (rw whole at all) in
       record {
-        parts = rw left at (ap (λ (t : Tables). t .covered) end);
+        parts = ap (λ (t : Tables). t .covered) end;
         drawn = ap (λ (t : Tables). t .halves) end;
-        remainders = rw left at (ap (λ (t : Tables). t .rests) end);
+        remainders = ap (λ (t : Tables). t .rests) end;
       }

@@ -1,7 +1,7 @@
 -- What mitigants cover and leave, computed. A mitigant's flags: 8 P42b to m terms, 17 secured and held in the same currency, 4 P40 terms.
 use mathlib.Core.List.{List, [], _∷_}
 use mathlib.Core.Path.{_≡_, refl}
-use Prim.Native.Nat.{ℕ}
+use Prim.Native.Nat.{ℕ, _-_}
 use lib.Seq.{sets}
 use Rattle.book.specs.declared.Kind.the-variants.{Other, Bank, LifeCompany}
 use Rattle.book.specs.declared.Counterparty.{Counterparty}
@@ -9,7 +9,8 @@ use Rattle.book.specs.Book.{Holding}
 use Rattle.exposure.specs.Examples.{opened, party, plain, reinsured, mitigant, held, at}
 use Rattle.exposure.specs.Parts.{halfOf, coveredOf, eachDrawing}
 use Rattle.assets.specs.Shares.{drawsOn}
-use Rattle.covering.specs.Covered.{drawnOff, restsFrom, halvesAfter}
+use Rattle.assets.specs.Halves.{endless}
+use Rattle.covering.specs.Covered.{restsFrom, halvesAfter}
 
 -- a counterparty at place 1, a good bank at place 2
 abbrev with-bank : Counterparty → ℕ → Counterparty
@@ -65,14 +66,14 @@ rests-table : sets (0 ∷ 101 ∷ 100 ∷ 0 ∷ 9 ∷ []) 1 (restsFrom (with-ban
 unfolding opened restsFrom
 rests-table = refl
 
--- by counterparty: a half that is drawn down to 0, and to 20 by a letter of 30; another counterparty's stays
+-- by counterparty: a half that is drawn down to 0, and to 20 by a letter of 30; another counterparty's stays; the loan draws 100 on nobody's
 abbrev short : Holding
 short = held (reinsured 1 101 0 101) (mitigant 5 8 2 30 ∷ [])
 
-halves-table : halvesAfter (with-bank (party Other 1 0)) (0 ∷ 50 ∷ 7 ∷ []) all ≡ 0 ∷ 0 ∷ 7 ∷ []
-unfolding opened halvesAfter drawnOff drawsOn
+halves-table : halvesAfter (with-bank (party Other 1 0)) (halfOf all) (endless ∷ 50 ∷ 7 ∷ []) all ≡ (endless - 100) ∷ 0 ∷ 7 ∷ []
+unfolding opened halvesAfter drawsOn
 halves-table = refl
 
-halves-left : halvesAfter (with-bank (party Other 1 0)) (0 ∷ 50 ∷ 7 ∷ []) (short ∷ loan ∷ []) ≡ 0 ∷ 20 ∷ 7 ∷ []
-unfolding opened halvesAfter drawnOff drawsOn
+halves-left : halvesAfter (with-bank (party Other 1 0)) (halfOf (short ∷ loan ∷ [])) (endless ∷ 50 ∷ 7 ∷ []) (short ∷ loan ∷ []) ≡ (endless - 100) ∷ 20 ∷ 7 ∷ []
+unfolding opened halvesAfter drawsOn
 halves-left = refl

@@ -1,16 +1,15 @@
 -- What the mitigants of a book cover, in book order, and what they leave of its assets and of the halves (C-18).
---   stillOf drawnOff       what may still be covered, and a part off a half, where `on` is whose half is drawn on, 0 for nobody's
---   byPlace                a table as the function of the place
+--   drawnOff               a part off the entry of a table that it is drawn on
 --   restsFrom              a table's entry for each asset, less what its mitigants cover
 --   halvesAfter            the table of halves behind some holdings
 --   heldBy holdingAt       how many mitigants holdings have; the holding at a place, whose first mitigant is the one at `first`
 --   mitigants-length covered-length covered-size rests-size    laws: how many mitigants are read; a number for each mitigant, a number for each asset
 use mathlib.Core.List.{List, [], _∷_}
 use mathlib.Core.Path.{_≡_, refl, ap, _∙_}
-use Prim.Native.Nat.{ℕ, zero, suc, _+_, _-_, min}
+use Prim.Native.Nat.{ℕ, zero, suc, _+_, _-_}
 use native.Mathlib.Omega.{arith}
 use lib.ListN.{length, getD, set, length-append}
-use Rattle.words.specs.Words.{_=?_, if_then_else_, sumOf}
+use Rattle.words.specs.Words.{sumOf}
 use Rattle.book.specs.declared.Counterparty.{Counterparty}
 use Rattle.book.specs.declared.Asset.{Asset}
 use Rattle.book.specs.declared.Mitigant.{Mitigant}
@@ -19,23 +18,16 @@ use Rattle.book.specs.Book.{Holding, mitigantsFrom, holdingsFrom}
 use Rattle.exposure.specs.Parts.{coveredBy, coveredOf, drawnBy, leftAfter, eachDrawing}
 use Rattle.assets.specs.Shares.{drawsOn}
 
--- of an asset of which `rest` is left, and of a half `half`
-unfoldable pub stillOf : ℕ → ℕ → ℕ → ℕ
-stillOf on rest half = if on =? 0 then rest else min rest half
-
-unfoldable pub drawnOff : ℕ → ℕ → List ℕ → List ℕ
-drawnOff on part t = if on =? 0 then t else set t on (getD t on 0 - part)
-
-abbrev pub byPlace : List ℕ → ℕ → ℕ
-byPlace t place = getD t place 0
+abbrev pub drawnOff : ℕ → ℕ → List ℕ → List ℕ
+drawnOff on part t = set t on (getD t on 0 - part)
 
 unfoldable pub restsFrom : (ℕ → Counterparty) → (ℕ → ℕ) → List ℕ → ℕ → List Holding → List ℕ
 restsFrom cs left t place [] = []
 restsFrom cs left t place (h ∷ hs) = (getD t place 0 - drawnBy cs left h) ∷ restsFrom cs (leftAfter cs left h) t (place + 1) hs
 
-unfoldable pub halvesAfter : (ℕ → Counterparty) → List ℕ → List Holding → List ℕ
-halvesAfter cs t [] = t
-halvesAfter cs t (h ∷ hs) = halvesAfter cs (drawnOff (drawsOn cs (h .asset)) (drawnBy cs (byPlace t) h) t) hs
+unfoldable pub halvesAfter : (ℕ → Counterparty) → (ℕ → ℕ) → List ℕ → List Holding → List ℕ
+halvesAfter cs left t [] = t
+halvesAfter cs left t (h ∷ hs) = halvesAfter cs (leftAfter cs left h) (drawnOff (drawsOn cs (h .asset)) (drawnBy cs left h) t) hs
 
 abbrev pub heldBy : List Holding → ℕ
 heldBy hs = sumOf (λ (h : Holding). h .asset .count) hs

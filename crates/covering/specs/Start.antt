@@ -44,6 +44,7 @@ module _ (b starts draws halves₀ rests : List ℕ) (acc : Accepted b) (ls : K 
         rests-size = omega (arith, filled-length (thereAt b) (N b) rests);
         owned = owned b starts acc ls unmarked;
         on = filled-at (drawsAt b) (N b) draws ld;
+        of-nobody = half .of-nobody;
         halved = halves-are b acc halves₀ lh undrawn half;
         there = filled-at (thereAt b) (N b) rests lr;
       }

@@ -11,7 +11,7 @@ use Rattle.parties.specs.Rows.{Parties}
 use Rattle.assets.specs.declared.Values.{Values}
 use Rattle.assets.specs.Assets as assets
 use Rattle.assets.specs.Shares.{restOf}
-use Rattle.assets.specs.Halves.{Halved}
+use Rattle.assets.specs.Halves.{Halved, added-length}
 use Rattle.covering.specs.Pass.{Known, Coverable, Covers}
 use Rattle.covering.specs.Start.{ready}
 use Rattle.cells.specs.declared.Sums.{Sums}
@@ -35,6 +35,9 @@ module _ {b starts₀ draws₀ halves₀ rests₀ places₀ covered₀ : List �
       }
 
   module _ (acc : Accepted b) {starts draws sums rests places : List ℕ} {v : Values} (q : assets.Valued b starts₀ draws₀ halves₀ rests₀ places₀ starts draws sums rests places v) where
+    pub pass-halves : 0 < length sums
+    pass-halves = rw (q .nets, added-length b (N b) 1 halves₀) (omega (arith, l .of-halves))
+
     pub pass-ready : {half : List ℕ} → Halved sums half → Coverable b starts draws half rests
     pass-ready h =
         rw (q .marks, q .on, q .there)

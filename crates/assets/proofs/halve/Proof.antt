@@ -23,7 +23,7 @@ loop-again : tie.Need-loop-again Inv-loop μ-loop
 loop-again c = halving-step (c .before .before .loop .inv) (omega arith)
 
 returns : tie.Need-returns Inv-loop μ-loop
-returns c = halving-end (c .before .loop .inv) (omega arith)
+returns c = halving-end (c .before .loop .inv) (omega arith) (c .before .before .pre)
 
 pub halve-spec : {M : Type 1} → statement M
 halve-spec =
@@ -38,5 +38,6 @@ halve-spec =
     (λ c. search needs)
     loop-less
     loop-again
+    (λ c. search needs)
     (λ c. search needs)
     returns)

@@ -3,10 +3,8 @@ use denote.Ref.{now}
 use Prim.Native.Nat.{_+_, _-_, _/_, _≤_, _<_}
 use lib.ListN.{length, getD}
 use native.Mathlib.Omega.{arith}
-use Rattle.wire.specs.Bytes.{M}
-use Rattle.book.specs.Records.{K, assetAt}
-use Rattle.covering.proofs.Run.{still-le}
-use Rattle.covering.proofs.Running.{Running, running-start, running-step, running-end, own-inside, own-odd, draws-inside, on-inside, halves-inside, rests-inside, rest-fits}
+use Rattle.book.specs.Records.{K}
+use Rattle.covering.proofs.Running.{Running, running-start, running-step, running-end, own-inside, draws-inside, on-inside, halves-inside, rests-inside}
 use borrow.Author.Needs.{needs}
 use Rattle.covering.proofs.cover.Statement.{statement}
 use Rattle.covering.proofs.cover.Tie as tie
@@ -18,7 +16,7 @@ abbrev μ-loop : tie.MeasureT-loop
 μ-loop b start k terms starts draws halves₀ rests₀ covered₀ own₀ place₀ halves rests covered own place = k + 1 - place
 
 loop-holds : tie.Need-loop-holds Inv-loop μ-loop
-loop-holds c = let s = c .before .before .before .before .before .before .before in running-start (s .pre .0) (s .pre .4)
+loop-holds c = running-start _ _ _ _ _ _
 
 -- once the mitigant's owner is read: its place, the asset's, and whose half that draws on, are inside the tables
 record At (c : tie.After-owner-at Inv-loop μ-loop) : Type 0 where
@@ -28,7 +26,6 @@ record At (c : tie.After-owner-at Inv-loop μ-loop) : Type 0 where
   on : getD (now (c .before .before .before .before .before .before .before .before .before .before .args .draws)) (c .owner-at .result / 2) 0 ≤ 500
   halves : getD (now (c .before .before .before .before .before .before .before .before .before .before .args .draws)) (c .owner-at .result / 2) 0 < length (c .before .before .loop .halves)
   rests : c .owner-at .result / 2 < length (c .before .before .loop .rests)
-  fits : getD (c .before .before .loop .rests) (c .owner-at .result / 2) 0 ≤ M
 
 at : (c : tie.After-owner-at Inv-loop μ-loop) → At c
 at c =
@@ -43,12 +40,7 @@ at c =
       on = omega (arith, on-inside k (s .pre .0) (s .pre .4) h e, s .pre .0 .counterparties);
       halves = halves-inside k (s .pre .0) (s .pre .4) h e;
       rests = rests-inside k (s .pre .0) (s .pre .4) h e;
-      fits = rest-fits k (s .pre .0) (s .pre .4) h e;
     }
-
--- what may still be covered is no more than is left of the asset
-still-fits : (c : tie.After-still-of Inv-loop μ-loop) → c .still-of .result ≤ getD (c .before .before .before .before .before .before .loop .rests) (c .before .before .before .before .owner-at .result / 2) 0
-still-fits c = rw (c .still-of .ensures) (still-le _ _ _)
 
 mul-on : tie.Need-mul-on Inv-loop μ-loop
 mul-on c = omega (arith, at c .own)
@@ -65,39 +57,41 @@ mul-rest c = omega (arith, at (c .before) .own)
 slice-read-rest : tie.Need-slice-read-rest Inv-loop μ-loop
 slice-read-rest c = at (c .before .before) .rests
 
-mul-still-of : tie.Need-mul-still-of Inv-loop μ-loop
-mul-still-of c = omega (arith, at (c .before .before) .on)
+mul-half : tie.Need-mul-half Inv-loop μ-loop
+mul-half c = omega (arith, at (c .before .before) .on)
 
-slice-read-still-of : tie.Need-slice-read-still-of Inv-loop μ-loop
-slice-read-still-of c = at (c .before .before .before) .halves
+slice-read-half : tie.Need-slice-read-half Inv-loop μ-loop
+slice-read-half c = at (c .before .before .before) .halves
 
-part-at-requires : tie.Need-part-at-requires Inv-loop μ-loop
-part-at-requires c κs =
-    let s = c .before .before .before .before .before .before .before .before .before .before .before .before .before .before in
-    let k = c .before .before .before .before .before .before .loop .inv in
-    let a = at (c .before .before .before .before) in
-    (s .pre .0, s .pre .1, k .started, a .place, omega arith, s .pre .3, omega (arith, still-fits c, a .fits))
+offer-at-requires : tie.Need-offer-at-requires Inv-loop μ-loop
+offer-at-requires c κs =
+    let s = c .before .before .before .before .before .before .before .before .before .before .before .before .before in
+    (s .pre .0, s .pre .1, c .before .before .before .before .before .loop .inv .started, at (c .before .before .before) .place, omega arith, s .pre .3)
 
-draw-requires : tie.Need-draw-requires Inv-loop μ-loop
-draw-requires c κs = at (c .before .before .before .before .before .before) .halves
+sub-halves : tie.Need-sub-halves Inv-loop μ-loop
+sub-halves c = omega (arith, c .lesser2 .ensures, c .before .lesser .ensures)
+
+mul-halves : tie.Need-mul-halves Inv-loop μ-loop
+mul-halves c = omega (arith, at (c .before .before .before .before .before .before) .on)
+
+slice-write-halves : tie.Need-slice-write-halves Inv-loop μ-loop
+slice-write-halves c = at (c .before .before .before .before .before .before) .halves
 
 sub-rests : tie.Need-sub-rests Inv-loop μ-loop
-sub-rests c = omega (arith, c .before .before .before .before .part-at .ensures .1, still-fits (c .before .before .before .before .before))
+sub-rests c = omega (arith, c .lesser2 .ensures, c .before .lesser .ensures)
 
 mul-rests : tie.Need-mul-rests Inv-loop μ-loop
-mul-rests c = omega (arith, at (c .before .before .before .before .before .before .before .before .before) .own)
+mul-rests c = omega (arith, at (c .before .before .before .before .before .before) .own)
 
 slice-write-rests : tie.Need-slice-write-rests Inv-loop μ-loop
-slice-write-rests c = at (c .before .before .before .before .before .before .before .before .before) .rests
+slice-write-rests c = at (c .before .before .before .before .before .before) .rests
 
 loop-again : tie.Need-loop-again Inv-loop μ-loop
 loop-again c =
-    let s = c .before .before .before .before .before .before .before .before .before .before .before .before .before .before .before .before .before .before .before in
-    let k = c .before .before .before .before .before .before .before .before .before .before .before .loop .inv in
-    let h = at (c .before .before .before .before .before .before .before .before .before) .place in
-    let e = c .before .before .before .before .before .before .before .before .before .owner-at .ensures in
-    let part = c .before .before .before .before .part-at .ensures .0 (assetAt (now (s .args .b)) (c .before .before .before .before .before .before .before .before .before .owner-at .result / 2)) (own-odd k (s .pre .0) (s .pre .4) h e) in
-    rw (c .before .before .draw .ensures) (running-step k (s .pre .0) (s .pre .4) h e (rw (c .before .before .before .before .before .still-of .ensures) at part))
+    let s = c .before .before .before .before .before .before .before .before .before .before .before .before .before .before .before .before in
+    let k = c .before .before .before .before .before .before .before .before .loop .inv in
+    let o = c .before .before .before .before .before .before in
+    running-step k (s .pre .0) (s .pre .4) (at o .place) (o .owner-at .ensures) (c .before .before .offer-at .ensures) (c .before .lesser .ensures) (c .lesser2 .ensures)
 
 same-length : tie.Need-same-length Inv-loop μ-loop
 same-length c = c .before .loop .inv .halves-size
@@ -124,11 +118,14 @@ cover-spec =
     cast-on
     mul-rest
     slice-read-rest
-    mul-still-of
-    slice-read-still-of
+    mul-half
+    slice-read-half
+    offer-at-requires
     (λ c κs. search needs)
-    part-at-requires
-    draw-requires
+    (λ c κs. search needs)
+    sub-halves
+    mul-halves
+    slice-write-halves
     sub-rests
     mul-rests
     slice-write-rests

@@ -3,7 +3,7 @@ use native.Mathlib.Omega.{arith}
 use denote.Ref.{now}
 use Rattle.book.specs.HeaderLaws.{header-counts, mitigants-from}
 use Rattle.cells.specs.CellLaws.{rowed}
-use Rattle.making.proofs.Drawing.{known, lent, pass-ready, pass-placed, pass-tabled, drew, summed}
+use Rattle.making.proofs.Drawing.{known, lent, pass-halves, pass-ready, pass-placed, pass-tabled, drew, summed}
 use borrow.Author.Needs.{needs}
 use Rattle.making.proofs.draw.Statement.{statement}
 use Rattle.making.proofs.draw.Tie as tie
@@ -14,6 +14,11 @@ fill-requires c κs =
     let e = c .before .before .before .before .before .before .before .before .before .header-at .ensures in
     let B = now (s .args .book) in
     (s .pre .0, c .before .before .before .before .before .before .assets-of .ensures, header-counts B e .1, s .pre .1 .parties, lent (s .pre .1 .lent))
+
+halve-requires : tie.Need-halve-requires
+halve-requires c κs =
+    let s = c .before .before .before .before .before .before .before .before .before .before .before .before .before .before .before .before .before .before .before .before .before .before .before .before .before .before .before .before .before .before .before .before .before in
+    pass-halves (s .pre .3) (s .pre .0) (c .before .before .before .before .before .before .before .before .before .before .before .fill .ensures)
 
 cover-requires : tie.Need-cover-requires
 cover-requires c κs =
@@ -81,7 +86,7 @@ draw-spec =
     (λ c κs. search needs)
     (λ c κs. search needs)
     fill-requires
-    (λ c κs. search needs)
+    halve-requires
     cover-requires
     post-requires
     same-length
