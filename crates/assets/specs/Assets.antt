@@ -34,18 +34,18 @@ pub record FundSums (b : List ℕ) (v : Values) : Type 0 where
   pub stressed : v .stressed ≡ stressedLessNetted (bookOf b)
 
 -- an asset behind the last mitigant is marked at K + 1; nets are added up from 0
-pub record AssetRoom (b starts draws halves rests cells : List ℕ) : Type 0 where
+pub record AssetRoom (b starts draws halves rests places : List ℕ) : Type 0 where
   pub of-starts : K b + 1 < length starts
   pub of-draws : N b < length draws
   pub of-halves : C b < length halves
   pub undrawn : (q : ℕ) → _≡_ {A = ℕ} (getD halves q 0) 0
   pub of-rests : N b < length rests
-  pub of-cells : N b < length cells
+  pub of-places : N b < length places
 
-pub record Valued (b starts₀ draws₀ halves₀ rests₀ cells₀ starts draws halves rests cells : List ℕ) (v : Values) : Type 0 where
+pub record Valued (b starts₀ draws₀ halves₀ rests₀ cells₀ starts draws halves rests places : List ℕ) (v : Values) : Type 0 where
   pub marks : starts ≡ marked b starts₀ 1 1 (N b)
   pub on : draws ≡ filled (λ p. drawsOn (counterpartyAt b) (assetAt b p)) (N b) draws₀
   pub nets : halves ≡ added b halves₀ 1 (N b)
   pub there : rests ≡ filled (λ p. restOf (assetAt b p)) (N b) rests₀
-  pub places : cells ≡ filled (restCell b) (N b) cells₀
+  pub each-cell : places ≡ filled (restCell b) (N b) cells₀
   pub sums : FundSums b v

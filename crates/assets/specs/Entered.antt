@@ -75,13 +75,13 @@ pub record TreatyFits (v : Values) (a : Asset) (s : Share) (stressed : ℕ) : Ty
   pub of-stressed : v .stressed + (stressed - a .offsets) < 2 ^ 64
 
 -- an asset's entries: its cell, what there is of it, and whose half it draws on
-pub record Settled (place cell rest on : ℕ) (draws₀ rests₀ cells₀ draws rests cells : List ℕ) : Type 0 where
+pub record Settled (place cell rest on : ℕ) (draws₀ rests₀ cells₀ draws rests places : List ℕ) : Type 0 where
   pub of-draw : draws ≡ set draws₀ place on
   pub of-rest : rests ≡ set rests₀ place rest
-  pub of-cell : cells ≡ set cells₀ place cell
+  pub of-cell : places ≡ set cells₀ place cell
 
 -- an asset whose fields are known, sums that it fits into, and tables with its place
-pub record Enters (a : Asset) (place row : ℕ) (v : Values) (draws halves rests cells : List ℕ) : Type 0 where
+pub record Enters (a : Asset) (place row : ℕ) (v : Values) (draws halves rests places : List ℕ) : Type 0 where
   pub low : 0 < a .kind
   pub kind : a .kind < 12
   pub entry : a .entry ≤ 3
@@ -97,11 +97,11 @@ pub record Enters (a : Asset) (place row : ℕ) (v : Values) (draws halves rests
   pub of-halves : a .counterparty < length halves
   pub of-net : getD halves (a .counterparty) 0 + net a < 2 ^ 64
   pub of-rests : place < length rests
-  pub of-cells : place < length cells
+  pub of-places : place < length places
 
-pub record Entered (a : Asset) (place row word terms : ℕ) (v : Values) (draws₀ halves₀ rests₀ cells₀ draws halves rests cells : List ℕ) (r : Values) : Type 0 where
+pub record Entered (a : Asset) (place row word terms : ℕ) (v : Values) (draws₀ halves₀ rests₀ cells₀ draws halves rests places : List ℕ) (r : Values) : Type 0 where
   pub of-draw : draws ≡ set draws₀ place (drawnIn a terms)
   pub of-half : halves ≡ withNet halves₀ a
   pub of-rest : rests ≡ set rests₀ place (restOf a)
-  pub of-cell : cells ≡ set cells₀ place (row + columnIn a word terms)
+  pub of-cell : places ≡ set cells₀ place (row + columnIn a word terms)
   pub sums : r ≡ with-asset v a

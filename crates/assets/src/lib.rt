@@ -94,12 +94,12 @@ pub fn settle(
     on: u16,
     draws: &mut [u16],
     rests: &mut [u64],
-    cells: &mut [u16],
+    places: &mut [u16],
 )
-    requires { ⌜ (place < length (now draws)) × (place < length (now rests)) × (place < length (now cells)) ⌝ }
-    ensures { λ _. ⌜ Settled place cell rest on (now (draws .entry)) (now (rests .entry)) (now (cells .entry)) (now (draws .exit)) (now (rests .exit)) (now (cells .exit)) ⌝ }
+    requires { ⌜ (place < length (now draws)) × (place < length (now rests)) × (place < length (now places)) ⌝ }
+    ensures { λ _. ⌜ Settled place cell rest on (now (draws .entry)) (now (rests .entry)) (now (places .entry)) (now (draws .exit)) (now (rests .exit)) (now (places .exit)) ⌝ }
 {
-    cells[place] = cell;
+    places[place] = cell;
     rests[place] = rest;
     draws[place] = on;
 }

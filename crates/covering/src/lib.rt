@@ -22,18 +22,12 @@ fn offer_at(b: &[u8], start: usize, place: usize, reinsured: u64, terms: &[u64])
     )
 }
 
-fn wide(x: u16) -> u64
-    ensures { λ r. ⌜ r ≡ x ⌝ }
-{
-    x as u64
-}
-
 // The mark of a mitigant's asset, where that of the mitigant before is `own`.
 fn owner_at(starts: &[u16], place: usize, own: u64) -> u64
     requires { ⌜ place < length (now starts) ⌝ }
     ensures { λ r. ⌜ r ≡ max own (getD (now (starts .entry)) place 0) ⌝ }
 {
-    choice::greater(own, wide(starts[place]))
+    choice::greater(own, rows::index(starts[place]) as u64)
 }
 
 // Every mitigant in book order: what it covers, taken off what is left of its asset and off the half that its asset draws on.

@@ -10,12 +10,6 @@ ghost use Rattle.cells.specs.Cells.{partAt, Rowed};
 ghost use Rattle.desks.specs.BookLines.{exposureLine};
 ghost use Rattle.desks.specs.Pass.{lineCell, PartsServable, PartsServed};
 
-fn wide(x: u16) -> usize
-    ensures { λ r. ⌜ r ≡ x ⌝ }
-{
-    x as usize
-}
-
 // The cell of the line of what a mitigant covers.
 fn part_cell(
     b: &[u8],
@@ -32,7 +26,7 @@ fn part_cell(
     let from = m.counterparty as usize;
     let form = m.form as u64;
     let column = columns::of_form(words[from], form) as usize;
-    wide(rows[from]) + wide(tiers[column])
+    rows::index(rows[from]) + rows::index(tiers[column])
 }
 
 // The cell of the line of what is left of an asset, by its row and the cell of its column.
@@ -40,8 +34,8 @@ pub fn rest_cell(row: u16, cell: u16, tiers: &[u16]) -> usize
     requires { ⌜ (row ≤ cell) × (cell < row + columns) × (Tiered (now tiers)) ⌝ }
     ensures { λ r. ⌜ r ≡ row + tierIn (cell - row) ⌝ }
 {
-    let column = wide(cell - row);
-    wide(row) + wide(tiers[column])
+    let column = rows::index(cell - row);
+    rows::index(row) + rows::index(tiers[column])
 }
 
 // The covered parts of an asset of such a desk, whose mitigants stand from place `first` on and before `end`.

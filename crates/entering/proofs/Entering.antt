@@ -41,7 +41,7 @@ module _ {a : Asset} {s : Share} where
   pub other-share : reinsurance a ≡ false → Shared a (a .value) s → Shared a (from a) s
   other-share e q = rw e q
 
-module _ {a : Asset} {s : Share} {place row : ℕ} {v : Values} {draws halves rests cells : List ℕ} (k : Enters a place row v draws halves rests cells) where
+module _ {a : Asset} {s : Share} {place row : ℕ} {v : Values} {draws halves rests places : List ℕ} (k : Enters a place row v draws halves rests places) where
   pub treaty-fits : reinsurance a ≡ true → {n : ℕ} → n ≡ stressed a → Shared a n s → TreatyFits v a s n
   treaty-fits e h q =
       let w = treaty-share e h q in
@@ -60,11 +60,11 @@ module _ {a : Asset} {s : Share} {place row : ℕ} {v : Values} {draws halves re
   pub net-fits : reinsurance a ≡ true → {n : ℕ} → n ≡ stressed a → Shared a n s → (getD halves (a .counterparty) 0 + s .net < 2 ^ 64) × (s .rest ≤ s .net)
   net-fits e h q = (rw (net-is (treaty-share e h q)) (k .of-net), rw (q .of-rest, q .of-net) (if-le (linked a) (omega arith) (omega arith)))
 
-module _ {a : Asset} {s : Share} {place row column on : ℕ} (word terms : ℕ) {v r : Values} {draws₀ halves₀ rests₀ cells₀ draws halves rests cells : List ℕ}
-    (t : Settled place (row + column) (s .rest) on draws₀ rests₀ cells₀ draws rests cells) where
+module _ {a : Asset} {s : Share} {place row column on : ℕ} (word terms : ℕ) {v r : Values} {draws₀ halves₀ rests₀ cells₀ draws halves rests places : List ℕ}
+    (t : Settled place (row + column) (s .rest) on draws₀ rests₀ cells₀ draws rests places) where
   pub treaty-entered : reinsurance a ≡ true → {n : ℕ} → n ≡ stressed a → Shared a n s → column ≡ digit (ageOf (a .entry) (a .months)) terms → on ≡ (if terms / 2 ^ 60 % 2 =? 1 then a .counterparty else 0)
       → halves ≡ set halves₀ (a .counterparty) (getD halves₀ (a .counterparty) 0 + s .rest) → r ≡ withTreaty v a s n
-      → Entered a place row word terms v draws₀ halves₀ rests₀ cells₀ draws halves rests cells r
+      → Entered a place row word terms v draws₀ halves₀ rests₀ cells₀ draws halves rests places r
   unfolding columnIn drawnIn treatyRest
   treaty-entered e h q ecol eo eh er =
       let w = treaty-share e h q in
@@ -77,7 +77,7 @@ module _ {a : Asset} {s : Share} {place row column on : ℕ} (word terms : ℕ) 
       }
 
   pub other-entered : reinsurance a ≡ false → Shared a (a .value) s → column ≡ digit (a .kind - 1) word → on ≡ 0 → halves ≡ halves₀ → r ≡ withOther v s
-      → Entered a place row word terms v draws₀ halves₀ rests₀ cells₀ draws halves rests cells r
+      → Entered a place row word terms v draws₀ halves₀ rests₀ cells₀ draws halves rests places r
   unfolding columnIn drawnIn treatyRest
   other-entered e q ecol eo eh er =
       let w = other-share e q in

@@ -14,10 +14,10 @@ pub fn enter(
     draws: &mut [u16],
     halves: &mut [u64],
     rests: &mut [u64],
-    cells: &mut [u16],
+    places: &mut [u16],
 ) -> Values
-    requires { ⌜ Enters a place row v (now draws) (now halves) (now rests) (now cells) ⌝ }
-    ensures { λ r. ⌜ Entered a place row word terms v (now (draws .entry)) (now (halves .entry)) (now (rests .entry)) (now (cells .entry)) (now (draws .exit)) (now (halves .exit)) (now (rests .exit)) (now (cells .exit)) r ⌝ }
+    requires { ⌜ Enters a place row v (now draws) (now halves) (now rests) (now places) ⌝ }
+    ensures { λ r. ⌜ Entered a place row word terms v (now (draws .entry)) (now (halves .entry)) (now (rests .entry)) (now (places .entry)) (now (draws .exit)) (now (halves .exit)) (now (rests .exit)) (now (places .exit)) r ⌝ }
 {
     if book::is_reinsurance(a) {
         let stressed = exposure::stressed_of(a);
@@ -25,13 +25,13 @@ pub fn enter(
         let sums = assets::with_treaty(v, a, s, stressed);
         let cell = row + assets::treaty_column(a, terms);
         let on = assets::treaty_draws(a, terms);
-        assets::settle(place, cell, s.rest, on, draws, rests, cells);
+        assets::settle(place, cell, s.rest, on, draws, rests, places);
         halves[a.counterparty as usize] += s.rest;
         return sums;
     }
     let s = assets::share_of(a, a.value);
     let sums = assets::with_other(v, s);
     let cell = row + assets::kind_column(a, word);
-    assets::settle(place, cell, s.rest, 0, draws, rests, cells);
+    assets::settle(place, cell, s.rest, 0, draws, rests, places);
     sums
 }

@@ -73,7 +73,7 @@ restAt b p = restOf (assetAt b p)
 abbrev count : Asset → ℕ
 count a = a .count
 
-pub record Filling (b starts₀ draws₀ halves₀ rests₀ cells₀ starts draws halves rests cells : List ℕ) (v : Values) (first place : ℕ) : Type 0 where
+pub record Filling (b starts₀ draws₀ halves₀ rests₀ cells₀ starts draws halves rests places : List ℕ) (v : Values) (first place : ℕ) : Type 0 where
   pub started : 0 < place
   pub within : place ≤ N b + 1
   pub after : 0 < first
@@ -84,7 +84,7 @@ pub record Filling (b starts₀ draws₀ halves₀ rests₀ cells₀ starts draw
   pub nets-most : (q : ℕ) → getD halves q 0 ≤ M * (place - 1)
   pub room : C b < length halves₀
   pub there : rests ≡ filled (restAt b) (place - 1) rests₀
-  pub places : cells ≡ filled (restCell b) (place - 1) cells₀
+  pub each-cell : places ≡ filled (restCell b) (place - 1) cells₀
   pub all : Below net b place (v .all)
   pub linked : Below linkedOf b place (v .linked)
   pub reinsurance : Below (ofReinsurance (λ a. a .value)) b place (v .reinsurance)
@@ -94,13 +94,13 @@ pub record Filling (b starts₀ draws₀ halves₀ rests₀ cells₀ starts draw
   pub draws-size : length draws ≡ length draws₀
   pub halves-size : length halves ≡ length halves₀
   pub rests-size : length rests ≡ length rests₀
-  pub cells-size : length cells ≡ length cells₀
+  pub places-size : length places ≡ length cells₀
 
 abbrev none : Values
 none = record { all = 0; linked = 0; reinsurance = 0; netted = 0; stressed = 0 }
 
-pub filling-start : {b starts draws halves rests cells : List ℕ} → AssetRoom b starts draws halves rests cells → Filling b starts draws halves rests cells starts draws halves rests cells none 1 1
-filling-start {b} {starts} {draws} {halves} {rests} {cells} l =
+pub filling-start : {b starts draws halves rests places : List ℕ} → AssetRoom b starts draws halves rests places → Filling b starts draws halves rests places starts draws halves rests places none 1 1
+filling-start {b} {starts} {draws} {halves} {rests} {places} l =
     let d : N b + 1 - 1 ≡ N b = omega arith in
     record {
       started = omega arith;
@@ -113,7 +113,7 @@ filling-start {b} {starts} {draws} {halves} {rests} {cells} l =
       nets-most = λ q. omega (arith, l .undrawn q);
       room = l .of-halves;
       there = filled-none (restAt b) rests;
-      places = filled-none (restCell b) cells;
+      each-cell = filled-none (restCell b) places;
       all = below-start net b;
       linked = below-start linkedOf b;
       reinsurance = below-start (ofReinsurance (λ a. a .value)) b;
@@ -123,10 +123,10 @@ filling-start {b} {starts} {draws} {halves} {rests} {cells} l =
       draws-size = refl;
       halves-size = refl;
       rests-size = refl;
-      cells-size = refl;
+      places-size = refl;
     }
 
-module _ {b starts₀ draws₀ halves₀ rests₀ cells₀ starts draws halves rests cells : List ℕ} {v : Values} {first place : ℕ} (k : Filling b starts₀ draws₀ halves₀ rests₀ cells₀ starts draws halves rests cells v first place) (acc : Accepted b) (h : place ≤ N b) where
+module _ {b starts₀ draws₀ halves₀ rests₀ cells₀ starts draws halves rests places : List ℕ} {v : Values} {first place : ℕ} (k : Filling b starts₀ draws₀ halves₀ rests₀ cells₀ starts draws halves rests places v first place) (acc : Accepted b) (h : place ≤ N b) where
   abbrev here : Asset
   here = assetAt b place
 
@@ -149,7 +149,7 @@ module _ {b starts₀ draws₀ halves₀ rests₀ cells₀ starts draws halves r
   unfolding treatyNet
   net-most-at q = if-le (reinsurance here && not (linked here) && here .counterparty =? q) (net-le (C b) here fits) (omega arith)
 
-  pub filling-enters : AssetRoom b starts₀ draws₀ halves₀ rests₀ cells₀ → {row : ℕ} → row ≡ rowOf b (here .counterparty) → Enters here place row v draws halves rests cells
+  pub filling-enters : AssetRoom b starts₀ draws₀ halves₀ rests₀ cells₀ → {row : ℕ} → row ≡ rowOf b (here .counterparty) → Enters here place row v draws halves rests places
   filling-enters l {row} e = record {
     low = fits .kind-low;
     kind = fits .kind;
@@ -166,15 +166,15 @@ module _ {b starts₀ draws₀ halves₀ rests₀ cells₀ starts draws halves r
     of-halves = who-there;
     of-net = omega (arith, k .nets-most (here .counterparty), net-le (C b) here fits, acc .assets);
     of-rests = omega (arith, k .rests-size, l .of-rests);
-    of-cells = omega (arith, k .cells-size, l .of-cells);
+    of-places = omega (arith, k .places-size, l .of-places);
   }
 
-  module _ {row word terms mark : ℕ} {draws′ halves′ rests′ cells′ : List ℕ} {r : Values}
+  module _ {row word terms mark : ℕ} {draws′ halves′ rests′ places′ : List ℕ} {r : Values}
       (er : row ≡ rowOf b (here .counterparty))
       (ew : word ≡ wordOf (counterpartyAt b (here .counterparty)))
       (et : terms ≡ termsOf (counterpartyAt b (here .counterparty)))
       (em : mark ≡ 2 * place + (if reinsurance here then 1 else 0))
-      (q : Entered here place row word terms v draws halves rests cells draws′ halves′ rests′ cells′ r) where
+      (q : Entered here place row word terms v draws halves rests places draws′ halves′ rests′ places′ r) where
     few : counterpartyAt b (here .counterparty) .flags < 8
     few = acc .flags (here .counterparty) (fits .low) (fits .high)
 
@@ -199,7 +199,7 @@ module _ {b starts₀ draws₀ halves₀ rests₀ cells₀ starts draws halves r
     one-more : (f : ℕ → ℕ) (t₀ : List ℕ) {t u : List ℕ} {x : ℕ} → t ≡ filled f (place - 1) t₀ → u ≡ set t place x → x ≡ f place → u ≡ filled f (place + 1 - 1) t₀
     one-more f t₀ e eu ex = let d : place + 1 - 1 ≡ place = omega arith in rw d (eu ∙ filled-next f t₀ (k .started) e ex)
 
-    pub filling-step : Filling b starts₀ draws₀ halves₀ rests₀ cells₀ (set starts first mark) draws′ halves′ rests′ cells′ r (first + here .count) (place + 1)
+    pub filling-step : Filling b starts₀ draws₀ halves₀ rests₀ cells₀ (set starts first mark) draws′ halves′ rests′ places′ r (first + here .count) (place + 1)
     filling-step =
         let c : first - 1 + here .count ≡ first + here .count - 1 = omega (arith, k .after) in
         rw (q .sums)
@@ -214,7 +214,7 @@ module _ {b starts₀ draws₀ halves₀ rests₀ cells₀ starts draws halves r
           nets-most = λ p. rw (q .of-half) (omega (arith, plus-at halves here who-there p, k .nets-most p, net-most-at p, k .started));
           room = k .room;
           there = one-more (restAt b) rests₀ (k .there) (q .of-rest) refl;
-          places = one-more (restCell b) cells₀ (k .places) (q .of-cell) cell-is;
+          each-cell = one-more (restCell b) cells₀ (k .each-cell) (q .of-cell) cell-is;
           all = below-step (k .all) h refl;
           linked = below-step (k .linked) h refl;
           reinsurance = below-step (k .reinsurance) h refl;
@@ -224,11 +224,11 @@ module _ {b starts₀ draws₀ halves₀ rests₀ cells₀ starts draws halves r
           draws-size = rw (q .of-draw, length-set) (k .draws-size);
           halves-size = rw (q .of-half, length-set) (k .halves-size);
           rests-size = rw (q .of-rest, length-set) (k .rests-size);
-          cells-size = rw (q .of-cell, length-set) (k .cells-size);
+          places-size = rw (q .of-cell, length-set) (k .places-size);
         })
 
 -- the same of an asset that was read
-module _ {b starts₀ draws₀ halves₀ rests₀ cells₀ starts draws halves rests cells : List ℕ} {v : Values} {first place : ℕ} (k : Filling b starts₀ draws₀ halves₀ rests₀ cells₀ starts draws halves rests cells v first place) (acc : Accepted b) (h : place ≤ N b)
+module _ {b starts₀ draws₀ halves₀ rests₀ cells₀ starts draws halves rests places : List ℕ} {v : Values} {first place : ℕ} (k : Filling b starts₀ draws₀ halves₀ rests₀ cells₀ starts draws halves rests places v first place) (acc : Accepted b) (h : place ≤ N b)
     {words terms rows : List ℕ} (t : Parties b words terms rows) {a : Asset} (ea : a ≡ assetAt b place) where
   pub who-inside : (0 < a .counterparty) × (a .counterparty ≤ C b)
   who-inside = let f = acc .asset place (k .started) h in rw ea (f .low, f .high)
@@ -236,17 +236,17 @@ module _ {b starts₀ draws₀ halves₀ rests₀ cells₀ starts draws halves r
   row-is : getD rows (a .counterparty) 0 ≡ rowOf b (a .counterparty)
   row-is = t .row (a .counterparty) (who-inside .0) (who-inside .1)
 
-  pub asset-enters : AssetRoom b starts₀ draws₀ halves₀ rests₀ cells₀ → Enters a place (getD rows (a .counterparty) 0) v draws halves rests cells
+  pub asset-enters : AssetRoom b starts₀ draws₀ halves₀ rests₀ cells₀ → Enters a place (getD rows (a .counterparty) 0) v draws halves rests places
   asset-enters l = rw ea (filling-enters k acc h l (rw ea at row-is))
 
-  pub asset-step : {mark : ℕ} {draws′ halves′ rests′ cells′ : List ℕ} {r : Values} → mark ≡ 2 * place + (if reinsurance a then 1 else 0)
-      → Entered a place (getD rows (a .counterparty) 0) (getD words (a .counterparty) 0) (getD terms (a .counterparty) 0) v draws halves rests cells draws′ halves′ rests′ cells′ r
-      → Filling b starts₀ draws₀ halves₀ rests₀ cells₀ (set starts first mark) draws′ halves′ rests′ cells′ r (first + a .count) (place + 1)
+  pub asset-step : {mark : ℕ} {draws′ halves′ rests′ places′ : List ℕ} {r : Values} → mark ≡ 2 * place + (if reinsurance a then 1 else 0)
+      → Entered a place (getD rows (a .counterparty) 0) (getD words (a .counterparty) 0) (getD terms (a .counterparty) 0) v draws halves rests places draws′ halves′ rests′ places′ r
+      → Filling b starts₀ draws₀ halves₀ rests₀ cells₀ (set starts first mark) draws′ halves′ rests′ places′ r (first + a .count) (place + 1)
   asset-step em q =
       rw ea
       (filling-step k acc h (rw ea at row-is) (rw ea at (t .word (a .counterparty) (who-inside .0) (who-inside .1))) (rw ea at (t .term (a .counterparty) (who-inside .0) (who-inside .1))) (rw ea at em) (rw ea at q))
 
-pub filling-end : {b starts₀ draws₀ halves₀ rests₀ cells₀ starts draws halves rests cells : List ℕ} {v : Values} {first place : ℕ} → Filling b starts₀ draws₀ halves₀ rests₀ cells₀ starts draws halves rests cells v first place → N b < place → Valued b starts₀ draws₀ halves₀ rests₀ cells₀ starts draws halves rests cells v
+pub filling-end : {b starts₀ draws₀ halves₀ rests₀ cells₀ starts draws halves rests places : List ℕ} {v : Values} {first place : ℕ} → Filling b starts₀ draws₀ halves₀ rests₀ cells₀ starts draws halves rests places v first place → N b < place → Valued b starts₀ draws₀ halves₀ rests₀ cells₀ starts draws halves rests places v
 unfolding marked added
 filling-end {b} {place = place} k h =
     let d : place - 1 ≡ N b = omega (arith, k .within) in
@@ -256,7 +256,7 @@ filling-end {b} {place = place} k h =
       on = rw d at (k .on);
       nets = rw e at (k .nets);
       there = rw d at (k .there);
-      places = rw d at (k .places);
+      each-cell = rw d at (k .each-cell);
       sums = record {
         all = below-end (k .all) h ∙ sym (all-sum b);
         linked = below-end (k .linked) h ∙ sym (linked-sum b);

@@ -33,10 +33,10 @@ pub fn fill(
     draws: &mut [u16],
     halves: &mut [u64],
     rests: &mut [u64],
-    cells: &mut [u16],
+    places: &mut [u16],
 ) -> Values
-    requires { ⌜ (Accepted (now b)) × (assets ≡ assetsOf (now b)) × (n ≡ N (now b)) × (Parties (now b) (now words) (now terms) (now rows)) × (AssetRoom (now b) (now starts) (now draws) (now halves) (now rests) (now cells)) ⌝ }
-    ensures { λ r. ⌜ Valued (now (b .entry)) (now (starts .entry)) (now (draws .entry)) (now (halves .entry)) (now (rests .entry)) (now (cells .entry)) (now (starts .exit)) (now (draws .exit)) (now (halves .exit)) (now (rests .exit)) (now (cells .exit)) r ⌝ }
+    requires { ⌜ (Accepted (now b)) × (assets ≡ assetsOf (now b)) × (n ≡ N (now b)) × (Parties (now b) (now words) (now terms) (now rows)) × (AssetRoom (now b) (now starts) (now draws) (now halves) (now rests) (now places)) ⌝ }
+    ensures { λ r. ⌜ Valued (now (b .entry)) (now (starts .entry)) (now (draws .entry)) (now (halves .entry)) (now (rests .entry)) (now (places .entry)) (now (starts .exit)) (now (draws .exit)) (now (halves .exit)) (now (rests .exit)) (now (places .exit)) r ⌝ }
 {
     let mut v = Values {
         all: 0,
@@ -60,7 +60,7 @@ pub fn fill(
             draws,
             halves,
             rests,
-            cells,
+            places,
         );
         starts[first] = mark_of(a, place);
         first += a.count as usize;

@@ -31,7 +31,7 @@ module _ {b starts₀ draws₀ halves₀ rests₀ places₀ covered₀ : List �
         of-halves = l .of-halves;
         undrawn = l .undrawn;
         of-rests = l .of-rests;
-        of-cells = l .of-places;
+        of-places = l .of-places;
       }
 
   module _ (acc : Accepted b) {starts draws sums rests places : List ℕ} {v : Values} (q : assets.Valued b starts₀ draws₀ halves₀ rests₀ places₀ starts draws sums rests places v) where
@@ -44,7 +44,7 @@ module _ {b starts₀ draws₀ halves₀ rests₀ places₀ covered₀ : List �
         (ready b starts₀ draws₀ halves₀ rests₀ acc (l .of-starts) (l .of-draws) (l .of-halves) (l .of-rests) (l .unmarked) (l .undrawn) (rw (q .nets) at h))
 
     pub pass-placed : Placed b places
-    pass-placed = placed b places₀ (l .of-places) (q .places)
+    pass-placed = placed b places₀ (l .of-places) (q .each-cell)
 
     there : (p : ℕ) → 0 < p → p ≤ N b → getD rests p 0 ≡ restOf (assetAt b p)
     there p g h = rw (q .there) (filled-at (λ p. restOf (assetAt b p)) (N b) rests₀ (l .of-rests) p g h)
@@ -68,7 +68,7 @@ module _ {b starts₀ draws₀ halves₀ rests₀ places₀ covered₀ : List �
               half = half;
               halved = rw (q .nets) at h;
               amounts = rw (q .there) at k;
-              at-places = q .places;
+              at-places = q .each-cell;
               exposed = rw sums-are at t;
             }
 

@@ -11,12 +11,6 @@ ghost use Rattle.cells.specs.Adding.{Adding};
 ghost use Rattle.cells.specs.Cells.{cellOf, partAt, Rowed, Posted};
 ghost use Rattle.posting.specs.Postable.{PartsPostable, RestsPostable, Postable};
 
-fn wide(x: u16) -> usize
-    ensures { λ r. ⌜ r ≡ x ⌝ }
-{
-    x as usize
-}
-
 // The cell of what a mitigant covers.
 fn cell_at(b: &[u8], start: usize, place: usize, words: &[u64], rows: &[u16]) -> usize
     requires { ⌜ (Accepted (now b)) × (start ≡ mitigantsStart (now b)) × (0 < place) × (place ≤ K (now b)) × (Rowed (now b) (now words) (now rows)) ⌝ }
@@ -25,7 +19,7 @@ fn cell_at(b: &[u8], start: usize, place: usize, words: &[u64], rows: &[u16]) ->
     let m = book::mitigant_at(b, start, place);
     let from = m.counterparty as usize;
     let form = m.form as u64;
-    wide(rows[from]) + columns::of_form(words[from], form) as usize
+    rows::index(rows[from]) + columns::of_form(words[from], form) as usize
 }
 
 // What the mitigants cover, each added to its cell.
@@ -56,7 +50,7 @@ fn post_rests(b: &[u8], n: usize, places: &[u16], rests: &[u64], cells: &mut [u6
 {
     let mut place = 1;
     while place <= n {
-        let cell = wide(places[place]);
+        let cell = rows::index(places[place]);
         cells[cell] += rests[place];
         place += 1;
     }

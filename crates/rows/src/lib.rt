@@ -41,3 +41,10 @@ pub fn by_rank(amounts: [u64; TIERS], ranking: [usize; TIERS]) -> [u64; TIERS]
     }
     out
 }
+
+// A number of a table, as an index.
+pub fn index(n: u16) -> usize
+    ensures { λ r. ⌜ r ≡ n ⌝ }
+{
+    n as usize
+}

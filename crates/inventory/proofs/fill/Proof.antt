@@ -10,11 +10,11 @@ use Rattle.inventory.proofs.fill.Statement.{statement}
 use Rattle.inventory.proofs.fill.Tie as tie
 
 abbrev Inv-loop : tie.InvT-loop
-Inv-loop b assets n words terms rows starts₀ draws₀ halves₀ rests₀ cells₀ v₀ first₀ place₀ starts draws halves rests cells v first place =
-    Filling b starts₀ draws₀ halves₀ rests₀ cells₀ starts draws halves rests cells v first place
+Inv-loop b assets n words terms rows starts₀ draws₀ halves₀ rests₀ cells₀ v₀ first₀ place₀ starts draws halves rests places v first place =
+    Filling b starts₀ draws₀ halves₀ rests₀ cells₀ starts draws halves rests places v first place
 
 abbrev μ-loop : tie.MeasureT-loop
-μ-loop b assets n words terms rows starts₀ draws₀ halves₀ rests₀ cells₀ v₀ first₀ place₀ starts draws halves rests cells v first place =
+μ-loop b assets n words terms rows starts₀ draws₀ halves₀ rests₀ cells₀ v₀ first₀ place₀ starts draws halves rests places v first place =
     n + 1 - place
 
 loop-holds : tie.Need-loop-holds Inv-loop μ-loop
@@ -89,7 +89,7 @@ same-length-4 : tie.Need-same-length-4 Inv-loop μ-loop
 same-length-4 c = c .before .loop .inv .rests-size
 
 same-length-5 : tie.Need-same-length-5 Inv-loop μ-loop
-same-length-5 c = c .before .loop .inv .cells-size
+same-length-5 c = c .before .loop .inv .places-size
 
 returns : tie.Need-returns Inv-loop μ-loop
 returns c = filling-end (c .before .loop .inv) (omega arith)

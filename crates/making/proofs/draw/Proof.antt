@@ -18,7 +18,7 @@ fill-requires c κs =
 halve-requires : tie.Need-halve-requires
 halve-requires c κs =
     let s = c .before .before .before .before .before .before .before .before .before .before .before .before .before .before .before .before .before .before .before .before .before .before .before .before .before .before .before .before .before .before .before .before .before in
-    pass-halves (s .pre .3) (s .pre .0) (c .before .before .before .before .before .before .before .before .before .before .before .fill .ensures)
+    pass-halves (s .pre .1 .lent) (s .pre .0) (c .before .before .before .before .before .before .before .before .before .before .before .fill .ensures)
 
 cover-requires : tie.Need-cover-requires
 cover-requires c κs =

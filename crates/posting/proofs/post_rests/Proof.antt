@@ -21,16 +21,16 @@ abbrev μ-loop : tie.MeasureT-loop
 loop-holds : tie.Need-loop-holds Inv-loop μ-loop
 loop-holds c = rests-start _ _ _
 
-on : (d : tie.After-wide Inv-loop μ-loop) → d .before .before .before .loop .place ≤ N (now (d .before .before .before .before .before .before .before .before .args .b))
+on : (d : tie.After-index Inv-loop μ-loop) → d .before .before .before .loop .place ≤ N (now (d .before .before .before .before .before .before .before .before .args .b))
 on d = omega arith
 
-is : (d : tie.After-wide Inv-loop μ-loop) → d .wide .result ≡ restCell (now (d .before .before .before .before .before .before .before .before .args .b)) (d .before .before .before .loop .place)
-is d = let s = d .before .before .before .before .before .before .before .before in let o = d .before .before .before .loop .inv in d .wide .ensures ∙ s .pre .placed .each _ (o .low) (on d)
+is : (d : tie.After-index Inv-loop μ-loop) → d .index .result ≡ restCell (now (d .before .before .before .before .before .before .before .before .args .b)) (d .before .before .before .loop .place)
+is d = let s = d .before .before .before .before .before .before .before .before in let o = d .before .before .before .loop .inv in d .index .ensures ∙ s .pre .placed .each _ (o .low) (on d)
 
-few : (d : tie.After-wide Inv-loop μ-loop) → d .wide .result < columns * mostGroups
+few : (d : tie.After-index Inv-loop μ-loop) → d .index .result < columns * mostGroups
 few d = let s = d .before .before .before .before .before .before .before .before in left-few (d .before .before .before .loop .inv) (s .pre .accepted) (on d) (s .pre .cells-size) (is d)
 
-fit : (d : tie.After-wide Inv-loop μ-loop) → getD (d .before .before .before .loop .cells) (d .wide .result) 0 + getD (now (d .before .before .before .before .before .before .before .before .args .rests)) (d .before .before .before .loop .place) 0 < 2 ^ 64
+fit : (d : tie.After-index Inv-loop μ-loop) → getD (d .before .before .before .loop .cells) (d .index .result) 0 + getD (now (d .before .before .before .before .before .before .before .before .args .rests)) (d .before .before .before .loop .place) 0 < 2 ^ 64
 fit d = let s = d .before .before .before .before .before .before .before .before in left-room (d .before .before .before .loop .inv) (s .pre .accepted) (on d) (s .pre .cells-size) (is d) (s .pre .room)
 
 mul-cells-2 : tie.Need-mul-cells-2 Inv-loop μ-loop
