@@ -2,21 +2,7 @@
 use book::Counterparty;
 ghost use mathlib.Core.Path.{_≡_};
 ghost use Prim.Native.Nat.{_<_};
-ghost use Rattle.columns.specs.Column.{classOf, wordAt, wordOf, termsAt, termsOf};
-
-// All of a counterparty that its columns and terms depend on: its kind, whether it is graded, and its flags, each by its bit.
-fn class_of(who: Counterparty) -> u64
-    requires { ⌜ who .flags < 8 ⌝ }
-    ensures { λ r. ⌜ (r ≡ classOf who) × (r < 80) ⌝ }
-{
-    let kind = who.kind;
-    let n = book::kind_number(kind) as u64;
-    16 * n
-        + choice::amount(book::is_graded(who), 8, 0)
-        + choice::amount(book::is_approved(who), 4, 0)
-        + choice::amount(book::is_affiliate(who), 2, 0)
-        + choice::one_if(book::is_related(who))
-}
+ghost use Rattle.columns.specs.Column.{wordAt, wordOf, termsAt, termsOf};
 
 // The word of a class. Each eight are one kind, graded or not, by their flags: in turn not related and related, which only a life company's go by.
 fn word_at(class: u64) -> u64
@@ -223,7 +209,7 @@ pub fn word_of(who: Counterparty) -> u64
     requires { ⌜ who .flags < 8 ⌝ }
     ensures { λ r. ⌜ r ≡ wordOf who ⌝ }
 {
-    word_at(class_of(who))
+    word_at(columns::class_of(who))
 }
 
 // The columns of reinsurance (`terms-column`), whether half of it may be covered (`terms-half`), how far promises count (`terms-trust`).
@@ -231,5 +217,5 @@ pub fn terms_of(who: Counterparty) -> u64
     requires { ⌜ who .flags < 8 ⌝ }
     ensures { λ r. ⌜ r ≡ termsOf who ⌝ }
 {
-    terms_at(class_of(who))
+    terms_at(columns::class_of(who))
 }

@@ -1,15 +1,30 @@
-// What is read off the two numbers that `classes` looks up: the column of an exposure, whether half of reinsurance may be covered, how far promises count;
-// and the tier of each column.
+// A counterparty's class, and what is read off the two numbers that `classes` looks up by it: the column of an exposure, whether half of reinsurance may be covered, how far
+// promises count; and the tier of each column.
+use book::Counterparty;
 use rows::COLUMNS;
 ghost use mathlib.Core.Path.{_≡_};
 ghost use Prim.Native.Nat.{_-_, _/_, _%_, _^_, _≤_, _<_};
-ghost use Rattle.columns.specs.Column.{digit, digitOf, ageOf, Tiered};
+ghost use Rattle.columns.specs.Column.{classOf, digit, digitOf, ageOf, Tiered};
 
 // The last six bits of byte n are five times the digit of form n (`digitOf`).
 const FORMS: u64 = 0x0A28_1E00_0F00;
 
 // The four bits from 4 n on are the digit of entry n / 4 at stage n % 4 of its months (`ageOf`).
 const AGES: u64 = 0xA987_0654_0321_0000;
+
+// All of a counterparty that its columns and terms depend on: its kind, whether it is graded, and its flags, each by its bit.
+pub fn class_of(who: Counterparty) -> u64
+    requires { ⌜ who .flags < 8 ⌝ }
+    ensures { λ r. ⌜ (r ≡ classOf who) × (r < 80) ⌝ }
+{
+    let kind = who.kind;
+    let n = book::kind_number(kind) as u64;
+    16 * n
+        + choice::amount(book::is_graded(who), 8, 0)
+        + choice::amount(book::is_approved(who), 4, 0)
+        + choice::amount(book::is_affiliate(who), 2, 0)
+        + choice::one_if(book::is_related(who))
+}
 
 // The tier that each column is part of.
 pub fn tiers() -> [u16; COLUMNS]

@@ -4,10 +4,10 @@ use Prim.Native.Nat.{_+_, _*_, _≤_}
 use native.Mathlib.Omega.{arith}
 use borrow.Author.Needs.{needs}
 use Rattle.words.specs.Choice.{if-le}
 use Rattle.columns.specs.Column.{classOf}
 use Rattle.columns.specs.ClassLaws.{kind-le, class-le}
-use Rattle.classes.proofs.class_of.Statement.{statement}
-use Rattle.classes.proofs.class_of.Tie as tie
+use Rattle.columns.proofs.class_of.Statement.{statement}
+use Rattle.columns.proofs.class_of.Tie as tie
 
 -- kind and grade together, an approval and an affiliate
 small : (c : tie.After-amount) → 16 * c .before .before .kind-number .result + c .amount .result ≤ 72
