@@ -29,7 +29,10 @@ extern "C" {
 /* ========================================================================== */
 
 /* The version that this header is of: as three numbers, as one that rises with each release, and in
- * words. The second number rises with each landing; entries have been added and none changed. */
+ * words. The second number rises with each landing that a host can tell. Entries have been added and
+ * none taken away or declared otherwise; what they write has changed twice: 0.8.0 puts lines whose
+ * limits print alike in another order, with other excesses, and 0.9.0 covers several treaties of one
+ * reinsurer from one half. */
 #define WEIGHTROSE_VERSION_MAJOR 0
 #define WEIGHTROSE_VERSION_MINOR 10
 #define WEIGHTROSE_VERSION_PATCH 0
