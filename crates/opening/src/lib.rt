@@ -368,8 +368,8 @@ fn large(
     )
 }
 
-// What is wanted of a book that refusals 1 to 13 and 17 let pass. `large` is called at two places, so that it stays a function of its own: put into this
-// one, its tables of 150 KB would have every call touch that much of the stack first.
+// What is wanted of a book that refusals 1 to 13 and 17 let pass. `large` and `medium` are called at two places each, so that the compiler leaves them
+// functions of their own: put into this one, their tables would have every call touch that much of the stack first.
 fn accepted(schedule: &[u8], book: &[u8], wanted: Wanted, asked: &[u8], lent: &mut [u8]) -> Answer
     requires { ⌜ Passed (now schedule) (now book) ⌝ }
     ensures { λ r. ⌜ Promised wanted (now (schedule .entry)) (now (book .entry)) (now (asked .entry)) (now (lent .entry)) (now (lent .exit)) r ⌝ }
@@ -378,16 +378,19 @@ fn accepted(schedule: &[u8], book: &[u8], wanted: Wanted, asked: &[u8], lent: &m
     let c = h.counterparties as usize;
     let n = h.assets as usize;
     let k = h.mitigants as usize;
-    if (c <= SMALL) & (n <= 4 * SMALL) & (k <= 4 * SMALL) {
-        return small(schedule, book, c, wanted, asked, lent);
-    }
-    if c <= MEDIUM {
-        if (n <= 4 * MEDIUM) & (k <= 4 * MEDIUM) {
-            return medium(schedule, book, c, wanted, asked, lent);
-        }
+    if MEDIUM < c {
         return large(schedule, book, c, wanted, asked, lent);
     }
-    large(schedule, book, c, wanted, asked, lent)
+    if !((n <= 4 * MEDIUM) & (k <= 4 * MEDIUM)) {
+        return large(schedule, book, c, wanted, asked, lent);
+    }
+    if SMALL < c {
+        return medium(schedule, book, c, wanted, asked, lent);
+    }
+    if !((n <= 4 * SMALL) & (k <= 4 * SMALL)) {
+        return medium(schedule, book, c, wanted, asked, lent);
+    }
+    small(schedule, book, c, wanted, asked, lent)
 }
 
 // All that entries of a schedule and a book have in common: refusals 1 to 15 and 17, the tables in the book's size, and the fund; then what is wanted of it.
