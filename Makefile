@@ -37,6 +37,9 @@ library: target/staticlib/libweightrose.a
 target/staticlib/libweightrose.a: crates.txt $(wildcard crates/*/src/*.rt)
 	$(RT) staticlib weightrose
 
+target/bin/desk: crates.txt $(wildcard crates/*/src/*.rt)
+	$(RT) check desk
+
 python: python/weightrose/libweightrose.so
 
 python/weightrose/libweightrose.so: $(SHARED_LIB)

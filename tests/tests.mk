@@ -49,7 +49,7 @@ include tests/install.mk
 
 tests: tests-rust tests-c tests-shared tests-install tests-python
 
-tests-rust: $(WEIGHTROSE_LIB)
+tests-rust: $(WEIGHTROSE_LIB) target/bin/desk
 	$(CARGO_ENV) $(CARGO) test $(CARGO_FLAGS) --profile checked
 	$(CARGO_ENV) $(CARGO) run $(CARGO_FLAGS) --profile checked --bin compare -- --seed $(SEED)
 
