@@ -15,8 +15,8 @@ use Rattle.figures.specs.Report.{linesOf, charge}
 use Rattle.figures.specs.Read.{linesIn, chargeIn}
 use Rattle.report.specs.Answer.{fundIn, reportOf, answerOf, Answered}
 use Rattle.text.specs.Text.{refusedText, reportText, answerText, linesRead}
-use Rattle.text.specs.Written as put
-use Rattle.text.proofs.Back.{report-text}
+use Rattle.digits.specs.Written as put
+use Rattle.report_text.proofs.Back.{report-text}
 use Rattle.printing.specs.Printed.{bufferSize, textFor, textOf, Printed}
 
 module _ (schedule book before after : List ℕ) (size : length before ≡ bufferSize) where

@@ -3,7 +3,8 @@ use mathlib.Core.Path.{_≡_, refl}
 use mathlib.Core.List.{List, [], _∷_, _++_}
 use Prim.Native.Nat.{ℕ}
 use lib.ListN.{take}
-use Rattle.text.specs.Text.{ascii, decimal, decimalBy, lineText, chargeText, refusedText, reportText}
+use Rattle.digits.specs.Decimal.{ascii, decimal, decimalBy}
+use Rattle.text.specs.Text.{lineText, chargeText, refusedText, reportText}
 use Rattle.examples.specs.Build.{name, plain, usual, t2}
 use Rattle.examples.specs.Table.{publishedBytes}
 use Rattle.examples.specs.Opened.{reportComputed}

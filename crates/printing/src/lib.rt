@@ -37,7 +37,7 @@ pub fn print(input: &[u8], text: &mut [u8]) -> usize
     let mut report = io::large_buffer();
     let answer = answer(input, &mut report);
     match answer {
-        Answer::Written(_) => text::put_report(text, &report),
+        Answer::Written(_) => report_text::put_report(text, &report),
         Answer::Refused(why) => text::put_refusal(text, why),
     }
 }

@@ -1,40 +1,18 @@
 -- What the desk prints, as bytes: "prints top, tier and the four amounts per line, last "charge N", or "refused N P" (number, place)".
---   ascii          the bytes of a quoted text
---   decimal        a number in decimal digits
 --   lineText chargeText refusedText   a printed line of each sort
 --   reportText     what is printed of a report's lines and its charge
 --   answerText     what is printed of an answer
 --   linesRead      the lines that stand in a report's bytes
 --   lineRoom       room for any printed line
 use mathlib.Core.List.{List, [], _∷_, _++_}
-use Prim.Native.Nat.{ℕ, zero, suc, _+_, _/_, _%_}
-use Prim.Native.Char.{code}
-use Prim.Native.String.{String}
-use Prim.Native.String.{[] as String·[], _∷_ as _String·∷_}
-use Rattle.words.specs.Words.{_<?_, if_then_else_, eachOf}
+use Prim.Native.Nat.{ℕ, zero, suc}
+use Rattle.words.specs.Words.{eachOf}
 use Rattle.refusal.specs.declared.Answer.{Answer}
 use Rattle.refusal.specs.declared.Answer.the-variants.{Written, Refused}
 use Rattle.refusal.specs.Refusals.{numberOf, placeOf}
 use Rattle.figures.specs.declared.Line.{Line}
 use Rattle.figures.specs.Read.{lineAt}
-
--- the bytes of a quoted text, a character to a byte
-abbrev pub ascii : String → List ℕ
-ascii String·[] = []
-ascii (c String·∷ s) = code c ∷ ascii s
-
--- the byte of a digit: "0" is 48
-abbrev pub digit : ℕ → ℕ
-digit d = 48 + d
-
--- n's decimal digits: those of n / 10, then the last; at most `more` of them stand before the last
-unfoldable pub decimalBy : ℕ → ℕ → List ℕ
-decimalBy zero n = digit n ∷ []
-decimalBy (suc more) n = if n <? 10 then digit n ∷ [] else decimalBy more (n / 10) ++ (digit (n % 10) ∷ [])
-
--- n in decimal digits, no zeros in front, 0 itself as "0"; every number printed has 64 bits, so at most 20 digits
-unfoldable pub decimal : ℕ → List ℕ
-decimal n = decimalBy 19 n
+use Rattle.digits.specs.Decimal.{ascii, decimal}
 
 -- "prints top, tier and the four amounts per line"
 unfoldable pub lineText : Line → List ℕ

@@ -1,8 +1,9 @@
 -- `text::put_charge` meets its contract: the word, then the number.
 use borrow.Author.Needs.{needs}
 use native.Mathlib.Omega.{arith}
-use Rattle.text.specs.Text.{ascii, chargeText}
-use Rattle.text.proofs.Laws.{then-number}
+use Rattle.digits.specs.Decimal.{ascii}
+use Rattle.text.specs.Text.{chargeText}
+use Rattle.digits.proofs.Laws.{then-number}
 use Rattle.text.proofs.put_charge.Statement.{statement}
 use Rattle.text.proofs.put_charge.Tie as tie
 

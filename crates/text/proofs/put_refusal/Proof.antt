@@ -1,8 +1,9 @@
 -- `text::put_refusal` meets its contract: the word, the number and the place.
 use borrow.Author.Needs.{needs}
 use native.Mathlib.Omega.{arith}
-use Rattle.text.specs.Text.{ascii, refusedText}
-use Rattle.text.proofs.Laws.{then-number}
+use Rattle.digits.specs.Decimal.{ascii}
+use Rattle.text.specs.Text.{refusedText}
+use Rattle.digits.proofs.Laws.{then-number}
 use Rattle.text.proofs.put_refusal.Statement.{statement}
 use Rattle.text.proofs.put_refusal.Tie as tie
 

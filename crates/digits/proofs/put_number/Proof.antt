@@ -1,12 +1,12 @@
--- `text::put_number` meets its contract: the digits, then the byte.
+-- `digits::put_number` meets its contract: the digits, then the byte.
 use borrow.Author.Needs.{needs}
 use mathlib.Core.Path.{refl}
 use mathlib.Core.List.{[], _∷_}
 use native.Mathlib.Omega.{arith}
-use Rattle.text.specs.Text.{decimal}
-use Rattle.text.proofs.Laws.{then-written}
-use Rattle.text.proofs.put_number.Statement.{statement}
-use Rattle.text.proofs.put_number.Tie as tie
+use Rattle.digits.specs.Decimal.{decimal}
+use Rattle.digits.proofs.Laws.{then-written}
+use Rattle.digits.proofs.put_number.Statement.{statement}
+use Rattle.digits.proofs.put_number.Tie as tie
 
 returns : tie.Need-returns
 returns c =

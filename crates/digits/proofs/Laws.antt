@@ -1,8 +1,8 @@
 -- decimal-is: what `io::decimal` spells is `decimal`. then-written: text written behind text is written with it; then-number the same for
--- a number and the byte that ends it. lines-next: the text of one line more.
+-- a number and the byte that ends it.
 use mathlib.Core.Bool.{Bool, true, false}
 use mathlib.Core.Path.{_≡_, refl, sym, ap, ap₂, subst, _∙_}
-use mathlib.Core.List.{List, [], _∷_, _++_, append-assoc, append-nil}
+use mathlib.Core.List.{List, [], _∷_, _++_, append-assoc}
 use Prim.Native.Nat.{ℕ, zero, suc, _+_, _*_, _-_, _/_, _%_, _^_, _≤_, _<_}
 use native.Mathlib.Nat.{pow-suc, one-le-pow, pow-le-pow-right}
 use native.Mathlib.Omega.{arith}
@@ -10,21 +10,18 @@ use lib.Dec.{leb}
 use lib.ListN.{length, length-append}
 use borrow.Author.Tests.{lt-ltb, le-ltb, leb-true, leb-false}
 use Rattle.io.specs.Digits.{digits, glyph, Fewest}
-use Rattle.words.specs.Words.{eachOf}
-use Rattle.words.specs.Sums.{each-append}
-use Rattle.figures.specs.Read.{lineAt}
 use Rattle.wire.specs.Bytes.{placed}
 use Rattle.wire.proofs.Laws.{then-placed}
-use Rattle.text.specs.Text.{digit, decimalBy, decimal, lineText, linesRead}
-use Rattle.text.specs.Written.{Written}
+use Rattle.digits.specs.Decimal.{digitByte, decimalBy, decimal}
+use Rattle.digits.specs.Written.{Written}
 
 -- a digit's byte
-glyph-digit : (d : ℕ) → d < 10 → glyph d ≡ digit d
+glyph-digit : (d : ℕ) → d < 10 → glyph d ≡ digitByte d
 glyph-digit d h = simp (lt-ltb d 10 h)
 
 -- n below 10 is one digit
-one-digit : (n : ℕ) → n < 10 → digits 10 1 n ≡ digit n ∷ []
-one-digit n h = ap (λ (b : ℕ). b ∷ []) (glyph-digit (n % 10) (omega arith) ∙ ap digit (omega arith))
+one-digit : (n : ℕ) → n < 10 → digits 10 1 n ≡ digitByte n ∷ []
+one-digit n h = ap (λ (b : ℕ). b ∷ []) (glyph-digit (n % 10) (omega arith) ∙ ap digitByte (omega arith))
 
 -- the fewest digits of n are the fewest of n / 10 and then the last
 spelled : (more n k : ℕ) → k ≤ suc more → Fewest 10 1 n k → digits 10 k n ≡ decimalBy more n
@@ -73,8 +70,3 @@ pub then-number : {l l₁ l₂ : List ℕ} {at k r : ℕ} (a : List ℕ) (n end 
     → Written l at (a ++ decimal n ++ (end ∷ [])) l₂ r
 then-number {l} {l₂ = l₂} {at} {r = r} a n end w v h =
     subst (λ (x : List ℕ). Written l at x l₂ r) (sym (append-assoc a (decimal n) (end ∷ []))) (then-written a (decimal n ++ (end ∷ [])) w v h)
-
--- the text of one line more
-pub lines-next : (R : List ℕ) (i : ℕ) → eachOf lineText (linesRead R (suc i)) ≡ eachOf lineText (linesRead R i) ++ lineText (lineAt R i)
-unfolding linesRead eachOf
-lines-next R i = each-append lineText (linesRead R i) (lineAt R i ∷ []) ∙ ap (λ (x : List ℕ). eachOf lineText (linesRead R i) ++ x) (append-nil (lineText (lineAt R i)))

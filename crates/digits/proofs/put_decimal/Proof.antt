@@ -1,15 +1,15 @@
--- `text::put_decimal` meets its contract: what `io::decimal` spells, copied.
+-- `digits::put_decimal` meets its contract: what `io::decimal` spells, copied.
 use borrow.Author.Needs.{needs}
 use mathlib.Core.Path.{_≡_, subst, _∙_}
 use mathlib.Core.List.{List}
 use Prim.Native.Nat.{ℕ}
 use native.Mathlib.Omega.{arith}
 use lib.ListN.{take}
-use Rattle.text.specs.Text.{decimal}
-use Rattle.text.specs.Written.{Written}
-use Rattle.text.proofs.Laws.{few, decimal-is}
-use Rattle.text.proofs.put_decimal.Statement.{statement}
-use Rattle.text.proofs.put_decimal.Tie as tie
+use Rattle.digits.specs.Decimal.{decimal}
+use Rattle.digits.specs.Written.{Written}
+use Rattle.digits.proofs.Laws.{few, decimal-is}
+use Rattle.digits.proofs.put_decimal.Statement.{statement}
+use Rattle.digits.proofs.put_decimal.Tie as tie
 
 put-requires : tie.Need-put-requires
 put-requires c κs =

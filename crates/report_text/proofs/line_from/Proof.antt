@@ -1,8 +1,8 @@
--- `text::line_from` meets its contract: the line's fields stand where `lineFrom` reads them.
+-- `report_text::line_from` meets its contract: the line's fields stand where `lineFrom` reads them.
 use borrow.Author.Needs.{needs}
 use Rattle.figures.specs.Read.{lineFrom}
-use Rattle.text.proofs.line_from.Statement.{statement}
-use Rattle.text.proofs.line_from.Tie as tie
+use Rattle.report_text.proofs.line_from.Statement.{statement}
+use Rattle.report_text.proofs.line_from.Tie as tie
 
 returns : tie.Need-returns
 unfolding lineFrom

@@ -1,4 +1,4 @@
--- `text::put_report` meets its contract: the lines one behind the other, then the charge.
+-- `report_text::put_report` meets its contract: the lines one behind the other, then the charge.
 use borrow.Author.Needs.{needs}
 use mathlib.Core.Path.{_≡_, refl}
 use Prim.Native.Nat.{_*_, _-_, _≤_}
@@ -7,11 +7,12 @@ use native.Mathlib.Omega.{arith}
 use lib.ListN.{length}
 use Rattle.words.specs.Words.{eachOf}
 use Rattle.figures.specs.Read.{linesIn, chargeIn, lineAt}
+use Rattle.digits.specs.Written.{Written}
+use Rattle.digits.proofs.Laws.{then-written}
 use Rattle.text.specs.Text.{lineText, chargeText, reportText, linesRead, lineRoom}
-use Rattle.text.specs.Written.{Written}
-use Rattle.text.proofs.Laws.{then-written, lines-next}
-use Rattle.text.proofs.put_report.Statement.{statement}
-use Rattle.text.proofs.put_report.Tie as tie
+use Rattle.report_text.proofs.Laws.{lines-next}
+use Rattle.report_text.proofs.put_report.Statement.{statement}
+use Rattle.report_text.proofs.put_report.Tie as tie
 
 abbrev Inv-loop : tie.InvT-loop
 Inv-loop out₀ report lines at₀ i₀ out at i =
