@@ -2,37 +2,27 @@
 -- exposures to come are within all exposures; and, of whatever limits the ranked ones are, the lines that are still to come are put behind those that are,
 -- and their excesses make up the sum.
 use mathlib.Core.Logic.{⊎-elim}
-use mathlib.Core.Path.{_≡_, refl, ap, ap₂, sym, _∙_}
-use mathlib.Core.List.{List, [], _++_, map}
+use mathlib.Core.Path.{_≡_, refl, ap, sym, _∙_}
+use mathlib.Core.List.{List, [], map}
 use Prim.Native.Nat.{ℕ, _+_, _*_, _-_, _≤_, _<_}
 use native.Mathlib.Omega.{arith}
 use denote.Ref.{now}
-use lib.ListN.{length, take, getD}
+use lib.ListN.{length, getD}
 use borrow.Author.Tests.{eq-eqb, ne-eqb}
-use Rattle.words.specs.Words.{_=?_, sumOf, eachOf}
+use Rattle.words.specs.Words.{_=?_, sumOf}
 use Rattle.words.specs.Choice.{if-le}
-use Rattle.wire.specs.Bytes.{placed}
 use Rattle.cascade.specs.Cascade.{tiers, byTier}
-use Rattle.figures.specs.declared.Line.{Line}
-use Rattle.figures.specs.Report.{headSize, lineSize, lineBytes, joined}
-use Rattle.figures.proofs.Back.{line-long}
+use Rattle.figures.specs.Report.{headSize, lineSize}
 use Rattle.rows.specs.Rows.{row}
-use Rattle.lines.specs.Listing.{groupIn, indexIn, exposureIn, ofRank, Source, source, before, entryLine, linesAlong, noGroup, entriesIn, listedLines}
+use Rattle.lines.specs.Listing.{groupIn, indexIn, exposureIn, ofRank, Source, source, before, noGroup, entriesIn}
 use Rattle.lines.specs.Promise.{EntryInside}
 use Rattle.lines.proofs.Entries.{exposure-in}
 use Rattle.rows.proofs.Ranked.{map-at, rank-few}
 use Rattle.lines.proofs.Ranks.{rank-group, rank-tier}
-use Rattle.layout.proofs.Putting.{Putting, put-start, put-piece, put-end, line-placed}
-use Rattle.writing.proofs.Writing.{excesses as excessesOf, any-limits, same-outcome, outcomeIn, line-of, standing-is, excess-is, kept, rest, lines-fit, lines-end, entry-inside, exposure-step, excess-step, bytes-step}
+use Rattle.writing.proofs.Writing.{any-limits, same-outcome, outcomeIn, kept, rest, entry-inside, exposure-step, Put, put-first, put-turn, put-all}
 use borrow.Author.Needs.{needs}
 use Rattle.writing.proofs.put_list.Statement.{statement}
 use Rattle.writing.proofs.put_list.Tie as tie
-
--- the lines that are put and those to come, of some limits
-abbrev Put : (S : Source) (list d₀ d : List ℕ) (lines excesses standing last place i : ℕ) → Type 0
-Put S list d₀ d lines excesses standing last place i =
-    (excesses + excessesOf (linesAlong S last standing (rest S list lines i)) ≡ excessesOf (listedLines S list lines))
-    × Putting d₀ headSize (joined (listedLines S list lines)) d place (joined (linesAlong S last standing (rest S list lines i)))
 
 abbrev Inv-loop : tie.InvT-loop
 Inv-loop d₀ cells sets heads list lines ranking ranked exposures₀ excesses₀ standing₀ last₀ place₀ i₀ d exposures excesses standing last place i =
@@ -41,7 +31,7 @@ Inv-loop d₀ cells sets heads list lines ranking ranked exposures₀ excesses�
     × ((last ≡ noGroup → ⊥) → exposures ≡ map (byTier (row cells last)) ranking)
     × (place ≡ headSize + lineSize * i)
     × (length d ≡ length d₀)
-    × ((limits : List ℕ) → ranked ≡ map (byTier limits) ranking → Put (source limits ranking cells sets heads) list d₀ d lines excesses standing last place i)
+    × ((limits : List ℕ) → ranked ≡ map (byTier limits) ranking → Put (source limits ranking cells sets heads) list lines d₀ d excesses standing last place i)
 
 abbrev μ-loop : tie.MeasureT-loop
 μ-loop d₀ cells sets heads list lines ranking ranked exposures₀ excesses₀ standing₀ last₀ place₀ i₀ d exposures excesses standing last place i = lines - i
@@ -76,11 +66,14 @@ module _ (c : tie.In-loop Inv-loop μ-loop) where
   abbrev e : ℕ
   e = ofRank ranking code
 
+  inside : at < start .args .lines
+  inside = omega arith
+
   long : length ranking ≡ tiers
   long = search needs
 
   here : EntryInside own e
-  here = entry-inside own (now (start .args .list)) (start .args .lines) _ (start .pre) at (omega arith)
+  here = entry-inside own (now (start .args .list)) (start .args .lines) _ (start .pre) at inside
 
   group : groupIn e ≡ groupIn code
   group = rank-group ranking (start .pre .ranked) long code
@@ -89,7 +82,7 @@ module _ (c : tie.In-loop Inv-loop μ-loop) where
   tier = rank-tier ranking (start .pre .ranked) long code
 
   exposure-here : sumOf (exposureIn cells) (rest own (now (start .args .list)) (start .args .lines) at) ≡ exposureIn cells e + sumOf (exposureIn cells) (rest own (now (start .args .list)) (start .args .lines) (at + 1))
-  exposure-here = exposure-step own (now (start .args .list)) (start .args .lines) _ (start .pre) at (omega arith)
+  exposure-here = exposure-step own (now (start .args .list)) (start .args .lines) _ (start .pre) at inside
 
   -- what stands before it
   abbrev under : ℕ
@@ -146,22 +139,13 @@ module _ (c : tie.After-cut Inv-loop μ-loop) where
   adds : c .cut .result .standing + c .cut .result .excess ≡ c .before .if1 .standing + getD (c .before .if1 .exposures) (indexIn (code i)) 0
   adds = omega (arith, standing-was (c .before), exposure-is (c .before), kept (own i) (under i) (e i) (c .cut .result) own-cut)
 
--- where no line is left
-no-excess : {xs : List Line} {n : ℕ} → xs ≡ [] → n + excessesOf xs ≡ n
-unfolding sumOf
-no-excess h = rw h (omega arith)
-
-no-bytes : {xs : List Line} → xs ≡ [] → joined xs ≡ []
-unfolding eachOf
-no-bytes h = rw h
-
 by-rank-requires : tie.Need-by-rank-requires Inv-loop μ-loop
 by-rank-requires c κs = c .before .before .before .before .before .pre .ranked
 
 loop-holds : tie.Need-loop-holds Inv-loop μ-loop
 loop-holds c =
     let a = c .before .before .before .before .before .before .args in
-    (omega arith, omega arith, (λ n. absurd (n refl)), omega arith, refl, λ limits q. (omega arith, put-start (now (a .d)) headSize _))
+    (omega arith, omega arith, (λ n. absurd (n refl)), omega arith, refl, λ limits q. put-first _ _ _ (now (a .d)))
 
 mul-entry : tie.Need-mul-entry Inv-loop μ-loop
 mul-entry c = record { fits = omega (arith, start c .pre .long) }
@@ -203,39 +187,20 @@ loop-again c =
     let k = c .before .before .before .before .before .before .before in
     let j = i k in
     let l = j .before .loop in
-    let a = start j .args in
-    let p = c .before .before .before .put-line in
-    let list = now (a .list) in (
+    let p = c .before .before .before .put-line in (
       omega arith,
       omega (arith, adds k, within (k .before)),
       (λ _. exposures-are (k .before)),
       omega (arith, p .ensures .place, l .inv .3),
       search needs,
       (λ limits q.
-          let S = S j limits in
-          let w = any-limits limits (start j .pre) in
-          let o = cut-is k limits q in
-          let step = excess-step S list (a .lines) _ w (at j) (omega arith) (l .last) (l .standing) in
-          let bytes = bytes-step S list (a .lines) _ w (at j) (omega arith) (l .last) (l .standing) in
-          let after = ap₂ (λ (g s : ℕ). linesAlong S g s (rest S list (a .lines) (at j + 1))) (sym (group j)) (standing-is S (under j) (e j) (k .cut .result) o) in (
-            omega (arith, excess-is S (under j) (e j) (k .cut .result) o, step, l .inv .5 limits q .0, ap (λ (xs : List Line). excessesOf xs) after),
-            put-piece (l .inv .5 limits q .1) (lines-fit S list (a .lines) _ w noGroup 0) (lineBytes (entryLine S (under j) (e j))) _ (bytes ∙ ap (λ (xs : List Line). lineBytes (entryLine S (under j) (e j)) ++ joined xs) (sym after))
-                (omega (arith, p .ensures .place, line-long (entryLine S (under j) (e j)))) (search needs)
-                (line-placed (p .ensures) ∙ ap (λ (x : Line). placed (l .d) (l .place) (lineBytes x)) (line-of S (under j) (e j) (k .cut .result) o (sym (group j)) (sym (tier j)) (exposure-is (k .before)) (limit-is j limits q))),
-          )),
+          put-turn (any-limits limits (start j .pre)) (l .inv .5 limits q) (inside j) (k .cut .result) (cut-is k limits q) (sym (group j)) (sym (tier j)) (exposure-is (k .before)) (limit-is j limits q) (p .ensures) (search needs)),
     )
 
 returns : tie.Need-returns Inv-loop μ-loop
 returns c =
     let s = c .before .before .before .before .before .before .before .before in
-    let l = c .before .loop in
-    let a = s .args in
-    let S = source (a .limits) (a .t3) (now (a .cells)) (now (a .sets)) (now (a .heads)) in
-    let none = lines-end S (now (a .list)) (a .lines) _ (s .pre) (l .last) (l .standing) (l .i) (omega arith) in
-    let put = l .inv .5 (a .limits) (c .before .before .by-rank .ensures) in (
-      sym (no-excess none) ∙ put .0,
-      put-end (put .1) (lines-fit S (now (a .list)) (a .lines) _ (s .pre) noGroup 0) (no-bytes none) .1,
-    )
+    put-all (s .pre) (c .before .loop .inv .5 (s .args .limits) (c .before .before .by-rank .ensures)) (omega arith)
 
 pub put-list-spec : {M : Type 1} → statement M
 put-list-spec =
