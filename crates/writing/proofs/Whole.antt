@@ -28,7 +28,7 @@ use Rattle.lines.proofs.Along.{along-long, along-within}
 use Rattle.lines.proofs.Heads.{lines-along}
 use Rattle.lines.proofs.Groups.{set-each}
 use Rattle.lines.proofs.Sets.{listed-size, entries-first}
-use Rattle.writing.proofs.Writing.{excesses, entries-long}
+use Rattle.line_writing.proofs.Writing.{excesses, entries-long}
 use Rattle.lines.proofs.Ranks.{entries-are, entries-many}
 
 -- the header of n lines whose excesses add up to x, where the A3 sum is so much above the A3 limit

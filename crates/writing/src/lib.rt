@@ -1,67 +1,10 @@
-// The writer of a report: each line of a list put straight into the lent bytes, then the header.
+// The writer of a report: the lines of a list put into the lent bytes, then the header.
 use cascade::TIERS;
 use figures::Figures;
 use figures::Head;
-use figures::Line;
-ghost use mathlib.Core.Path.{_≡_};
 ghost use lib.ListN.{length};
-ghost use Rattle.words.specs.Words.{sumOf};
-ghost use Rattle.wire.specs.Bytes.{placed};
-ghost use Rattle.figures.specs.Report.{headSize, joined};
-ghost use Rattle.lines.specs.Listing.{source, listedLines};
-ghost use Rattle.lines.specs.Promise.{Entries, Writable, ReportPut};
-
-// No group has this number.
-const NONE: usize = 65535;
-
-// The lines along a list of entries, behind the header; their excesses summed. Limits and the group's exposures are arrays by rank, the exposures ranked
-// anew where the group changes; there nothing stands.
-fn put_list(
-    d: &mut [u8],
-    limits: [u64; TIERS],
-    ranking: [usize; TIERS],
-    cells: &[u64],
-    sets: &[u16],
-    heads: &[u16],
-    list: &[u16],
-    lines: usize,
-) -> u64
-    requires { ⌜ Entries (source limits ranking (now cells) (now sets) (now heads)) (now list) lines (length (now d)) ⌝ }
-    ensures { λ r. ⌜ (r ≡ sumOf (λ x. x .excess) (listedLines (source limits ranking (now (cells .entry)) (now (sets .entry)) (now (heads .entry))) (now (list .entry)) lines)) × (now (d .exit) ≡ placed (now (d .entry)) headSize (joined (listedLines (source limits ranking (now (cells .entry)) (now (sets .entry)) (now (heads .entry))) (now (list .entry)) lines))) ⌝ }
-{
-    let ranked = rows::by_rank(limits, ranking);
-    let mut exposures = [0u64; TIERS];
-    let mut excesses: u64 = 0;
-    let mut standing: u64 = 0;
-    let mut last = NONE;
-    let mut place = layout::HEAD;
-    let mut i = 0;
-    while i < lines {
-        let entry = list[i] as usize;
-        let k = entry / TIERS;
-        let rank = entry % TIERS;
-        if k != last {
-            exposures = rows::by_rank(rows::row_of(cells, k), ranking);
-            standing = 0;
-        }
-        let cut = cascade::cut(ranked[rank], exposures[rank], standing);
-        let line = Line {
-            top: heads[k],
-            tier: ranking[rank] as u8,
-            tiers: sets[k],
-            exposure: exposures[rank],
-            limit: ranked[rank],
-            left: cut.left,
-            excess: cut.excess,
-        };
-        place = layout::put_line(d, place, line);
-        standing = cut.standing;
-        excesses += cut.excess;
-        last = k;
-        i += 1;
-    }
-    excesses
-}
+ghost use Rattle.lines.specs.Listing.{source};
+ghost use Rattle.lines.specs.Promise.{Writable, ReportPut};
 
 // The report of a table that is listed: its lines, then the header, which has their excesses. No byte behind the report changes.
 pub fn put_report(
@@ -78,7 +21,16 @@ pub fn put_report(
     requires { ⌜ Writable (source limits ranking (now cells) (now sets) (now heads)) (now list) lines figures (length (now buffer)) ⌝ }
     ensures { λ _. ⌜ ReportPut (source limits ranking (now (cells .entry)) (now (sets .entry)) (now (heads .entry))) (now (list .entry)) lines figures (now (buffer .entry)) (now (buffer .exit)) ⌝ }
 {
-    let group_excess = put_list(buffer, limits, ranking, cells, sets, heads, list, lines);
+    let group_excess = line_writing::put_list(
+        buffer,
+        limits,
+        ranking,
+        cells,
+        sets,
+        heads,
+        list,
+        lines,
+    );
     let over = choice::difference(figures.a3_sum, figures.a3_limit);
     let head = Head {
         lines: lines as u16,

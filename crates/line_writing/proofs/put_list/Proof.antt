@@ -19,10 +19,10 @@ use Rattle.lines.specs.Promise.{EntryInside}
 use Rattle.lines.proofs.Entries.{exposure-in}
 use Rattle.rows.proofs.Ranked.{map-at, rank-few}
 use Rattle.lines.proofs.Ranks.{rank-group, rank-tier}
-use Rattle.writing.proofs.Writing.{any-limits, same-outcome, outcomeIn, kept, rest, entry-inside, exposure-step, Put, put-first, put-turn, put-all}
+use Rattle.line_writing.proofs.Writing.{any-limits, same-outcome, outcomeIn, kept, rest, entry-inside, exposure-step, Put, put-first, put-turn, put-all}
 use borrow.Author.Needs.{needs}
-use Rattle.writing.proofs.put_list.Statement.{statement}
-use Rattle.writing.proofs.put_list.Tie as tie
+use Rattle.line_writing.proofs.put_list.Statement.{statement}
+use Rattle.line_writing.proofs.put_list.Tie as tie
 
 abbrev Inv-loop : tie.InvT-loop
 Inv-loop d₀ cells sets heads list lines ranking ranked exposures₀ excesses₀ standing₀ last₀ place₀ i₀ d exposures excesses standing last place i =
