@@ -13,7 +13,7 @@ use Rattle.book.specs.declared.Kind.{Kind}
 use Rattle.book.specs.declared.Kind.the-variants.{Other, Bank, HomeGovernment, ProvincialGovernment, LifeCompany}
 use Rattle.book.specs.declared.Counterparty.{Counterparty}
 use Rattle.book.specs.Records.{kindOf}
-use Rattle.book.specs.Fields.{kindNumber, graded, related, affiliate, secondLimb}
+use Rattle.book.specs.Fields.{kindNumber, graded}
 use Rattle.columns.specs.Column.{classOf}
 
 abbrev pub ofClass : ℕ → Counterparty

@@ -1,6 +1,5 @@
 -- Numbers at the edges, in decimal digits.
 use mathlib.Core.Path.{_≡_, refl}
-use Prim.Native.Nat.{ℕ}
 use Rattle.digits.specs.Decimal.{ascii, decimal, decimalBy}
 
 pub numbers :

@@ -12,7 +12,7 @@ use lib.Pow.{pow-mono}
 use lib.Seq.{take-suc, getD-set-same, getD-set-other}
 use lib.Dec.{eqb}
 use borrow.Author.Tests.{eqb-true, eqb-false, eq-eqb, ne-eqb}
-use Rattle.words.specs.Words.{_<?_, _=?_, if_then_else_, sum, sumOf, eachOf, those, countFrom}
+use Rattle.words.specs.Words.{_<?_, _=?_, if_then_else_, sum, sumOf, those, countFrom}
 use Rattle.words.specs.Sums.{sum-append, sum-map, sum-each, sum-agree, sum-same, sum-count, all-map, all-count}
 use Rattle.words.specs.Ranges.{sum-zero, sum-here}
 use Rattle.cascade.specs.Cascade.{tiers, byTier}

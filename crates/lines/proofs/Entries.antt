@@ -3,12 +3,12 @@ use mathlib.Core.Path.{_≡_, ap, sym, _∙_}
 use mathlib.Core.List.{List, map}
 use Prim.Native.Nat.{ℕ, _+_, _*_, _^_, _≤_, _<_}
 use native.Mathlib.Omega.{arith}
-use lib.Count.{ones, ones-le}
+use lib.Count.{ones}
 use lib.ListN.{length, length-map}
 use Rattle.words.specs.Words.{_<?_, if_then_else_, sum, sumOf, eachOf, those, countFrom, All}
 use Rattle.words.specs.Sums.{sum-each, sum-map, sum-agree, sum-same, sum-count, sum-length, length-each, length-count, all-map, all-mapped, all-count}
 use Rattle.cascade.specs.Cascade.{tiers, byTier}
-use Rattle.figures.proofs.Size.{bits-lt, bits-ones}
+use Rattle.figures.proofs.Size.{bits-ones}
 use Rattle.rows.specs.Rows.{columns, row, row-at}
 use Rattle.lines.specs.Table.{setOf}
 use Rattle.lines.specs.Listing.{entry, groupIn, indexIn, exposureIn, shown, allEntries, entriesOf, Source}
@@ -112,7 +112,3 @@ module _ (ranking : List ℕ) (o : Once tiers ranking) where
 
   pub entries-sum : (cells : List ℕ) (groups : ℕ) → sumOf (exposureIn cells) (entriesOf cells groups ranking) ≤ allExposures cells groups
   entries-sum cells groups = omega (arith, all-sum cells groups, those-sum (shown cells) (exposureIn cells) (allEntries groups ranking))
-
-pub ones-small : (exposures : List ℕ) → ones (setOf exposures) ≤ tiers
-unfolding setOf
-ones-small exposures = ones-le tiers (setOf exposures) (bits-lt (λ t. 0 <? byTier exposures t) tiers)

@@ -1,16 +1,14 @@
 -- One turn of the listing of the groups: the entries of a group are tried, and its set of tiers is put.
-use mathlib.Core.Path.{_≡_, refl, ap, ap₂, sym, _∙_}
+use mathlib.Core.Path.{_≡_, refl, ap, sym, _∙_}
 use mathlib.Core.Bool.{Bool}
 use mathlib.Core.List.{List, [], _∷_, _++_, map}
 use Prim.Native.Nat.{ℕ, suc, _+_, _-_, _≤_, _<_}
 use native.Mathlib.Omega.{arith}
-use lib.ListN.{length, take, drop, getD, set, length-map, length-append}
+use lib.ListN.{length, take, drop, getD, length-map, length-append}
 use Rattle.words.specs.Words.{eachOf, those, countFrom}
 use Rattle.words.specs.Sums.{sum-length, length-count, count-at}
 use Rattle.wire.specs.Bytes.{placed}
 use Rattle.wire.proofs.Laws.{read-in}
-use Rattle.wire.proofs.Stores.{stored}
-use Rattle.cascade.specs.Cascade.{tiers}
 use Rattle.rows.specs.Rows.{row}
 use Rattle.lines.specs.Table.{setOf}
 use Rattle.lines.specs.Listing.{entry, allEntries, tried}

@@ -18,7 +18,7 @@ use Rattle.rows.specs.Rows.{row}
 use Rattle.lines.specs.Table.{setOf}
 use Rattle.lines.specs.Listing.{entry, groupIn, allEntries, entriesOf, allRanks, shownBy, bitFor, tried}
 use Rattle.lines.specs.Promise.{Listable, Addable, Added, Listed}
-use Rattle.lines.proofs.Tries.{those-all, those-sum, each-all, tried-long, tried-first}
+use Rattle.lines.proofs.Tries.{those-all, each-all, tried-long, tried-first}
 use Rattle.lines.proofs.Entries.{group-in, entries-all, all-long, entries-ones, entries-few}
 use Rattle.lines.proofs.Ranks.{entries-many}
 use Rattle.lines.proofs.Heads.{lines-ones}

@@ -13,7 +13,7 @@ use Rattle.refusal.specs.Refusals.{numberOf, placeOf}
 use Rattle.schedule.specs.Schedule.{scheduleSize}
 use Rattle.figures.specs.Report.{linesOf, charge}
 use Rattle.figures.specs.Read.{linesIn, chargeIn}
-use Rattle.report.specs.Answer.{fundIn, reportOf, answerOf, Answered}
+use Rattle.report.specs.Answer.{fundIn, reportOf, Answered}
 use Rattle.text.specs.Text.{refusedText, reportText, answerText, linesRead}
 use Rattle.digits.specs.Written as put
 use Rattle.report_text.proofs.Back.{report-text}

@@ -1,7 +1,6 @@
 -- The text computed from the bytes that are read: of T1 and T2, and of refusals 1, 5 and 11.
 use mathlib.Core.Path.{_≡_, refl}
-use mathlib.Core.List.{List, [], _∷_, _++_}
-use Prim.Native.Nat.{ℕ}
+use mathlib.Core.List.{[], _∷_, _++_}
 use lib.ListN.{take}
 use Rattle.digits.specs.Decimal.{ascii, decimal, decimalBy}
 use Rattle.text.specs.Text.{lineText, chargeText, refusedText, reportText}

@@ -1,6 +1,5 @@
 -- The text computed: of a line, of a charge, of a refusal.
 use mathlib.Core.Path.{_≡_, refl}
-use Prim.Native.Nat.{ℕ}
 use Rattle.digits.specs.Decimal.{ascii, decimal, decimalBy}
 use Rattle.text.specs.Text.{lineText, chargeText, refusedText}
 

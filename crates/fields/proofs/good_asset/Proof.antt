@@ -1,6 +1,6 @@
 -- `good_asset`: an asset's tests, one by one; each return has what the tests before it leave of `goodAsset`.
-use mathlib.Core.Bool.{Bool, true, false, _&&_}
-use mathlib.Core.Path.{_≡_, refl, sym, _∙_}
+use mathlib.Core.Bool.{Bool, _&&_}
+use mathlib.Core.Path.{_≡_, refl, _∙_}
 use Prim.Native.Nat.{ℕ}
 use Rattle.words.specs.Words.{if_then_else_}
 use Rattle.words.specs.Choice.{not-true, not-false}

@@ -1,7 +1,7 @@
 -- `list_groups` meets its contract. The loop's invariant: the entries of the groups that are still to come, tried from the place reached, leave what all
 -- of them leave; and those that have a line lead from there to the place behind all entries.
 use mathlib.Core.Path.{_≡_, refl, ap, sym, _∙_}
-use mathlib.Core.List.{List, map}
+use mathlib.Core.List.{List}
 use Prim.Native.Nat.{ℕ, _+_, _*_, _-_, _≤_}
 use native.Mathlib.Omega.{arith}
 use denote.Ref.{now}
@@ -9,7 +9,7 @@ use lib.ListN.{length}
 use Rattle.words.specs.Words.{those}
 use Rattle.words.specs.Sums.{length-count}
 use Rattle.cascade.specs.Cascade.{tiers}
-use Rattle.lines.specs.Listing.{entry, allEntries, allRanks, shownBy, tried}
+use Rattle.lines.specs.Listing.{allEntries, allRanks, shownBy, tried}
 use Rattle.lines.proofs.Tries.{tried-long}
 use Rattle.lines.proofs.Groups.{later, later-first, later-end, none-counted, none-tried, group-few, count-step, list-step}
 use borrow.Author.Needs.{needs}
