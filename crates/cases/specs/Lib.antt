@@ -15,3 +15,4 @@ pub mod Buffer
 pub mod Desks
 pub mod Bills
 pub mod Headroom
+pub mod Movements

@@ -21,12 +21,12 @@ use Rattle.book.specs.Records.{version}
 use Rattle.book.specs.Check.{versionKnown}
 use Rattle.figures.specs.Report.{bitsOf}
 
--- 0.10.0
+-- 0.11.0
 abbrev pub major : ℕ
 major = 0
 
 abbrev pub minor : ℕ
-minor = 10
+minor = 11
 
 abbrev pub patch : ℕ
 patch = 0

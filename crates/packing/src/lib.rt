@@ -7,7 +7,7 @@ ghost use Rattle.packing.specs.Version.{libraryVersion};
 // The library's version, MAJOR.MINOR.PATCH.
 const MAJOR: u64 = 0;
 
-const MINOR: u64 = 10;
+const MINOR: u64 = 11;
 
 const PATCH: u64 = 0;
 

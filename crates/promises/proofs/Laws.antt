@@ -8,10 +8,11 @@ use borrow.Author.Tests.{le-leb, lt-leb}
 use Rattle.wire.specs.Bytes.{placed}
 use Rattle.words.specs.Words.{_≤?_}
 use Rattle.refusal.specs.declared.Answer.{Answer}
+use Rattle.refusal.specs.declared.Answer.the-variants.{Written, Refused}
 use Rattle.refusal.specs.declared.Checked.{Checked}
 use Rattle.refusal.specs.declared.Checked.the-variants.{Fine, Bad}
 use Rattle.refusal.specs.declared.Refusal.{Refusal}
-use Rattle.refusal.specs.declared.Refusal.the-variants.{ScheduleLength, ScheduleMark, ScheduleVersion, ScheduleRates, BookLength, BookMark, BookVersion, BookCounts, BookAmounts, Counterparty, Asset, Mitigant, MitigantCounts, ReinsuranceValues, StressedAssets, BufferShort, SpecialistEntry, ManyMitigants, CostRate, Questions, AnswersShort}
+use Rattle.refusal.specs.declared.Refusal.the-variants.{ScheduleLength, ScheduleMark, ScheduleVersion, ScheduleRates, BookLength, BookMark, BookVersion, BookCounts, BookAmounts, Counterparty, Asset, Mitigant, MitigantCounts, ReinsuranceValues, StressedAssets, BufferShort, SpecialistEntry, ManyMitigants, CostRate, Questions, AnswersShort, Movement as NoMovement}
 use Rattle.refusal.specs.Refusals.{numberOf}
 use Rattle.refusal.specs.Chain.{refuse_unless_, _andThen_, answerBy}
 use Rattle.refusal.specs.Laws.{then-first, then-rest, unless-fine}
@@ -31,10 +32,13 @@ use Rattle.billing.specs.Billed.{billsOf, billCheck, billAnswer, Billed}
 use Rattle.asking.specs.Questions.{answerSize, countOf, goodList}
 use Rattle.questions.specs.Headroom.{answersOf, headroomCheck, headroomAnswer, Asked}
 use Rattle.asking.proofs.Listed.{listed}
+use Rattle.movement.specs.Movement.{bookIn, Movement, resulting}
+use Rattle.day.specs.Moving.{movementAnswer, stoodBy, Moved}
+use Rattle.day.proofs.Shown.{checked-records, not-refused}
 use Rattle.packing.specs.Packed.{packed}
 use Rattle.packing.specs.Version.{libraryVersion, number-read, schedule-read, book-read}
 use Rattle.report.proofs.Most.{report-most}
-use Rattle.promises.specs.Exported.{Apart, Reported, Converted, BillsWritten, Answers, Published, Versioned}
+use Rattle.promises.specs.Exported.{Apart, Reported, Converted, BillsWritten, Answers, MovementMade, Published, Versioned}
 
 -- no refusal has the number 0
 numbered : (why : Refusal) → 1 ≤ numberOf why
@@ -59,6 +63,7 @@ numbered (ManyMitigants p) = omega arith
 numbered CostRate = omega arith
 numbered Questions = omega arith
 numbered AnswersShort = omega arith
+numbered NoMovement = omega arith
 
 -- a report of a book that the checks let pass has at most 2,400 lines
 few : (schedule book : List ℕ) → bookCheck book ≡ Fine → length (reportOf schedule book) < 4294967296
@@ -155,6 +160,29 @@ answered schedule book questions before after a r w e =
       apart = rw (e ∙ ap packed (w .answer)) (answers-apart schedule book questions (length before));
       bytes = w .bytes ∙ ap (λ (x : Answer). writtenBy x (answersOf schedule book questions) before) (w .answer);
       right = rw (w .answer) at (w .right);
+    }
+
+-- so has the report of the book that a movement makes
+movement-apart : (schedule : List ℕ) (m : Movement) (book : List ℕ) (n : ℕ) → Apart (movementAnswer schedule m book n) (packed (movementAnswer schedule m book n))
+movement-apart schedule m book n = by (movementAnswer schedule m book n) refl
+  where
+    by : (a : Answer) → movementAnswer schedule m book n ≡ a → Apart a (packed a)
+    by (Written l) e =
+        let w = not-refused schedule m book n e in
+        let new = resulting (bookIn book) m in
+        omega (arith, w .size, few schedule new (checked-records new (w .checked)))
+    by (Refused why) e = omega (arith, numbered why)
+
+pub movement-made :
+    (schedule : List ℕ) (m : Movement) (book book′ report report′ : List ℕ) (a : Answer) (r : ℕ) → Moved schedule m book book′ report report′ a → r ≡ packed a
+    → MovementMade schedule m book book′ report report′ r
+movement-made schedule m book book′ report report′ a r w e =
+    record {
+      answer = e ∙ ap packed (w .answer);
+      apart = rw (e ∙ ap packed (w .answer)) (movement-apart schedule m book (length report));
+      stands = w .stands ∙ ap (λ (x : Answer). stoodBy x (resulting (bookIn book) m) book) (w .answer);
+      bytes = w .bytes ∙ ap (λ (x : Answer). writtenBy x (reportOf schedule (bookIn book′)) report) (w .answer);
+      cuts = rw (w .answer) at (w .cuts);
     }
 
 pub too-short : (before : List ℕ) → length before < scheduleSize → Published before before 0

@@ -4,6 +4,7 @@
 --   Converted      of weightrose_convert
 --   BillsWritten   of weightrose_bills
 --   Answers        of weightrose_headroom
+--   MovementMade   of weightrose_add and weightrose_remove
 --   Published      of weightrose_published
 --   Versioned      of weightrose_version
 use mathlib.Core.List.{List, _++_}
@@ -23,6 +24,8 @@ use Rattle.convert.specs.Convert.{convertAnswer, KeptBy}
 use Rattle.report.specs.Answer.{fundIn, reportOf, answerOf, writtenBy, CutsOf}
 use Rattle.billing.specs.Billed.{billsOf, billAnswer, AddUpBy}
 use Rattle.questions.specs.Headroom.{answersOf, headroomAnswer, RightBy}
+use Rattle.movement.specs.Movement.{bookIn, Movement, resulting}
+use Rattle.day.specs.Moving.{movementAnswer, stoodBy}
 use Rattle.packing.specs.Packed.{packed}
 use Rattle.packing.specs.Version.{versionNumber, libraryVersion, numberIn, schedulesIn, booksIn}
 
@@ -58,6 +61,14 @@ pub record Answers (schedule book questions before after : List ℕ) (r : ℕ) :
   pub apart : Apart (headroomAnswer schedule book questions (length before)) r
   pub bytes : after ≡ writtenBy (headroomAnswer schedule book questions (length before)) (answersOf schedule book questions) before
   pub right : RightBy (headroomAnswer schedule book questions (length before)) schedule book questions after
+
+-- C-19: the number r, and both lent buffers before and after; what was written is the report of the book which then stands, demand 3 with it
+pub record MovementMade (schedule : List ℕ) (m : Movement) (book book′ report report′ : List ℕ) (r : ℕ) : Type 0 where
+  pub answer : r ≡ packed (movementAnswer schedule m book (length report))
+  pub apart : Apart (movementAnswer schedule m book (length report)) r
+  pub stands : book′ ≡ stoodBy (movementAnswer schedule m book (length report)) (resulting (bookIn book) m) book
+  pub bytes : report′ ≡ writtenBy (movementAnswer schedule m book (length report)) (reportOf schedule (bookIn book′)) report
+  pub cuts : CutsOf (movementAnswer schedule m book (length report)) (fundIn schedule (bookIn book′)) report′
 
 -- "The published schedule (A1 to A3) is a constant of the product": its bytes where they fit
 pub record Published (before after : List ℕ) (r : ℕ) : Type 0 where

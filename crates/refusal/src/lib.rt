@@ -4,7 +4,7 @@ ghost use Prim.Native.Nat.{_<_, _≤_};
 ghost use Rattle.refusal.specs.Refusals.{numberOf, placeOf};
 ghost use Rattle.refusal.specs.Chain.{refuse_unless_, _andThen_};
 
-// The refusals in the order of their numbers, 1 to 21. Those of a record carry its place, from 1.
+// The refusals in the order of their numbers, 1 to 22. Those of a record carry its place, from 1.
 pub enum Refusal {
     ScheduleLength,
     ScheduleMark,
@@ -27,6 +27,7 @@ pub enum Refusal {
     CostRate,
     Questions,
     AnswersShort,
+    Movement,
 }
 
 // What a section of checks finds.
@@ -43,7 +44,7 @@ pub enum Answer {
 
 // The refusal's number.
 pub fn number(why: Refusal) -> u64
-    ensures { λ r. ⌜ (r ≡ numberOf why) × (r ≤ 21) ⌝ }
+    ensures { λ r. ⌜ (r ≡ numberOf why) × (r ≤ 22) ⌝ }
 {
     match why {
         Refusal::ScheduleLength => 1,
@@ -67,6 +68,7 @@ pub fn number(why: Refusal) -> u64
         Refusal::CostRate => 19,
         Refusal::Questions => 20,
         Refusal::AnswersShort => 21,
+        Refusal::Movement => 22,
     }
 }
 
@@ -96,6 +98,7 @@ pub fn place(why: Refusal) -> u64
         Refusal::CostRate => 0,
         Refusal::Questions => 0,
         Refusal::AnswersShort => 0,
+        Refusal::Movement => 0,
     }
 }
 

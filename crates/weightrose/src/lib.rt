@@ -1,5 +1,6 @@
 // The library's exported entries, on numbers and byte slices.
-ghost use Rattle.promises.specs.Exported.{Reported, Converted, BillsWritten, Answers, Published, Versioned};
+ghost use Rattle.movement.specs.Movement.{Add, Remove};
+ghost use Rattle.promises.specs.Exported.{Reported, Converted, BillsWritten, Answers, MovementMade, Published, Versioned};
 
 // The report of a book under a schedule, into the lent bytes.
 #[no_mangle]
@@ -36,6 +37,32 @@ pub extern "C" fn weightrose_headroom(
     ensures { λ r. ⌜ Answers (now (schedule .entry)) (now (book .entry)) (now (questions .entry)) (now (answers .entry)) (now (answers .exit)) r ⌝ }
 {
     packing::pack(entries::headroom(schedule, book, questions, answers))
+}
+
+// The book in a lent buffer with an asset more, and its report, into the lent bytes.
+#[no_mangle]
+pub extern "C" fn weightrose_add(
+    schedule: &[u8],
+    asset: &[u8],
+    book: &mut [u8],
+    report: &mut [u8],
+) -> u64
+    ensures { λ r. ⌜ MovementMade (now (schedule .entry)) (Add (now (asset .entry))) (now (book .entry)) (now (book .exit)) (now (report .entry)) (now (report .exit)) r ⌝ }
+{
+    packing::pack(moving::add(schedule, asset, book, report))
+}
+
+// The book in a lent buffer without the asset at a place, and its report, into the lent bytes.
+#[no_mangle]
+pub extern "C" fn weightrose_remove(
+    schedule: &[u8],
+    place: u64,
+    book: &mut [u8],
+    report: &mut [u8],
+) -> u64
+    ensures { λ r. ⌜ MovementMade (now (schedule .entry)) (Remove place) (now (book .entry)) (now (book .exit)) (now (report .entry)) (now (report .exit)) r ⌝ }
+{
+    packing::pack(moving::remove(schedule, place, book, report))
 }
 
 // The published schedule's bytes, into the lent bytes, and how many they are; 0 and no byte changed where fewer are lent.

@@ -1,0 +1,4 @@
+pub mod Moving
+pub mod Day
+mod MovementTable
+mod MovingTable

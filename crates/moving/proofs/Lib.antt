@@ -1,0 +1,2 @@
+pub mod InBuffer
+pub mod Behind
