@@ -6,11 +6,12 @@
  *
  * A book of the first version can be turned into one of the second, which names desks, and the
  * desks can be billed for what the charge costs. Dealers can ask how much more may be bought before
- * the charge rises.
+ * the charge rises. Through the day assets can be added to a book where it lies and taken away from
+ * it, with a new report after each such movement.
  *
  * All functions are plain computations over the bytes handed to them: they allocate nothing,
  * read and write no file, keep nothing between calls and share nothing between threads, so any
- * number of threads may call them at once, each with a buffer of its own. A call needs at most
+ * number of threads may call them at once, each with buffers of its own. A call needs at most
  * 256 KB of stack. No input, however damaged, makes a call fail in any other way than by a
  * refusal.
  */
@@ -34,11 +35,11 @@ extern "C" {
  * limits print alike in another order, with other excesses, and 0.9.0 covers several treaties of one
  * reinsurer from one half. */
 #define WEIGHTROSE_VERSION_MAJOR 0
-#define WEIGHTROSE_VERSION_MINOR 10
+#define WEIGHTROSE_VERSION_MINOR 11
 #define WEIGHTROSE_VERSION_PATCH 0
 #define WEIGHTROSE_VERSION_NUMBER \
 	(WEIGHTROSE_VERSION_MAJOR * 65536 + WEIGHTROSE_VERSION_MINOR * 256 + WEIGHTROSE_VERSION_PATCH)
-#define WEIGHTROSE_VERSION "0.10.0"
+#define WEIGHTROSE_VERSION "0.11.0"
 
 /* The versions of schedules and of books that the library of this header takes: bit n is set for
  * version n. */
@@ -68,7 +69,8 @@ extern "C" {
 #define WEIGHTROSE_ASSET_SIZE 48
 #define WEIGHTROSE_MITIGANT_SIZE 12
 
-/* The most records of each sort in a book, and the most bytes of a book. */
+/* The most records of each sort in a book, and the most bytes of a book: a buffer of that size is
+ * never too short for the book of a movement. */
 #define WEIGHTROSE_MOST_COUNTERPARTIES 500
 #define WEIGHTROSE_MOST_ASSETS 900
 #define WEIGHTROSE_MOST_MITIGANTS 1500
@@ -181,16 +183,17 @@ extern "C" {
  * specialist funds keep their 500, 330 and 170 per mille of VAF' under schedules of either
  * version. The published schedule is of version 1. A schedule of version 1 becomes one of version
  * 2 by a 2 in byte 4 and ten times each of its 24 rates, and by nothing else: under both of them
- * every book gets the same answer and the same bytes, of the report, of the bills and of what
- * questions are answered. The way back is open where ten divides each rate. The cost rate of
- * weightrose_bills() is no part of a schedule and is in ten-thousandths always.
+ * every book gets the same answer and the same bytes, of the report, of the bills, of what
+ * questions are answered and of movements. The way back is open where ten divides each rate. The
+ * cost rate of weightrose_bills() is no part of a schedule and is in ten-thousandths always.
  */
 
 /*
  * Versions of a book. Bytes 6 and 7 of an asset are all that the two versions have apart, and a
  * book is read by the version that its header states. No report reads a desk: two books that
  * differ in desks alone get the same report, byte for byte. weightrose_bills() alone reads them.
- * weightrose_convert() turns a book of version 1 into one of version 2.
+ * weightrose_convert() turns a book of version 1 into one of version 2. A movement leaves a book of
+ * either version at its version.
  */
 
 /*
@@ -240,19 +243,67 @@ extern "C" {
  * another entry class.
  */
 
+/*
+ * Movements. A book that lies at the start of a buffer lent for writing is kept current there as
+ * assets come and go: weightrose_add() adds an asset, weightrose_remove() takes one away, and both
+ * write the report of the book that is there then to a second buffer. The book that stands is the
+ * first bytes of its buffer, as many as its counts say: 40, and 4 for each counterparty, 48 for each
+ * asset and 12 for each mitigant. The buffer may be longer, and what it has behind that book is not
+ * read.
+ *
+ * An asset that is added stands behind the last asset and before the mitigants, which move up by 48
+ * bytes; its place is one more than there were assets. Its record is read by the version of the
+ * book, and it comes without mitigants: the count of them in its record is 0 (bytes 6 and 7 in
+ * version 1; byte 6 in version 2, where byte 7 is its desk). An asset that is taken away goes with
+ * all its mitigants, and what stood behind closes up: the places of the assets behind it fall by
+ * one, those of the mitigants behind its own by as many as it had. The book's counts of assets and
+ * of mitigants follow. Everything else of the book stays: its version, byte 12, the total assets,
+ * the capital base and the excluded assets of its header, whatever comes or goes; the
+ * counterparties, also one with whom no asset is left; and the other assets and mitigants, in their
+ * order. The bytes of the buffer behind the new end stay as they were; after an asset was taken away
+ * they begin with the last bytes of the longer book. So the end of a book is told by its counts
+ * alone: weightrose_book_length() reads it from them.
+ *
+ * The book as it stands is checked first, as weightrose_report() checks it, but that a buffer longer
+ * than its counts say is no fault. Then the movement itself is (22), then the book that would
+ * result: where weightrose_report() would refuse that one, the movement is refused by the same
+ * number and place, and the place is one of that book. A 901st asset is WEIGHTROSE_BOOK_COUNTS,
+ * whatever its record. A bad record is WEIGHTROSE_ASSET, and entry class 3 without byte 12
+ * WEIGHTROSE_SPECIALIST_ENTRY, both with the new asset's place; a count of mitigants that is not 0
+ * is WEIGHTROSE_MITIGANT_COUNTS. To add reinsurance may be WEIGHTROSE_REINSURANCE_VALUES or
+ * WEIGHTROSE_STRESSED_ASSETS. To take reinsurance away may be WEIGHTROSE_STRESSED_ASSETS too, where
+ * without its stress less is left than is excluded, or where VAF' is over the most once its value is
+ * no longer taken off; by no other number of the resulting book is taking away refused. Last, each
+ * buffer must have room for what is to be in it, the new book or its report. A refused movement
+ * changes no byte of either buffer.
+ *
+ * A day is any list of movements in one buffer that starts from an accepted book, under one
+ * schedule, while nobody else writes the book. The refused ones are as if they had not been asked
+ * for. After each of the others the book is accepted, so that within a day no refusal is of the book
+ * as it stands, and the report is, byte for byte, the one that weightrose_report() makes afresh from
+ * the header's amounts, the counterparties and the assets then present: what is left of the book of
+ * the start, each asset with its mitigants, and behind it what is left of the added assets, in the
+ * order in which they came. From one movement to the next nothing is kept but the book: no call
+ * starts a day, and none ends it. Whoever wants the total assets, the capital base or the excluded
+ * assets to follow the assets, or has a counterparty or a mitigant to add, writes the book himself
+ * between two movements, and that is the start of another day.
+ */
+
 /* ========================================================================== */
 /*                                  Answers                                   */
 /* ========================================================================== */
 
 /*
- * Why a schedule, a book, a cost rate, a list of questions or a buffer was turned back, and the
- * answer is the first check that fails. weightrose_report() makes them in the order 1 to 13, 17,
- * 14, 15, 16, weightrose_convert() in the order 5 to 13, 17, 14, 15, 18, 16, weightrose_bills() in
- * the order 1 to 13, 17, 14, 15, 19, 16, and weightrose_headroom() in the order 1 to 13, 17, 14,
- * 15, 20, 21.
+ * Why a schedule, a book, a cost rate, a list of questions, a movement or a buffer was turned back,
+ * and the answer is the first check that fails. weightrose_report() makes them in the order 1 to 13,
+ * 17, 14, 15, 16, weightrose_convert() in the order 5 to 13, 17, 14, 15, 18, 16, weightrose_bills()
+ * in the order 1 to 13, 17, 14, 15, 19, 16, and weightrose_headroom() in the order 1 to 13, 17, 14,
+ * 15, 20, 21. weightrose_add() and weightrose_remove() make them in the order 1 to 13, 17, 14, 15 of
+ * the book as it stands, 22, then 5 to 13, 17, 14, 15 of the book that would result, 16.
  */
 enum weightrose_refusal {
-	/* Nothing was refused: there is a report, a converted book, bills, or answers to questions. */
+	/* Nothing was refused: there is a report, a converted book, bills, answers to questions, or a
+	 * book after a movement with its report. */
 	WEIGHTROSE_ACCEPTED = 0,
 	/* The schedule is not of 122 bytes. */
 	WEIGHTROSE_SCHEDULE_LENGTH = 1,
@@ -263,14 +314,15 @@ enum weightrose_refusal {
 	/* The schedule has a rate over 1,500 (over 15,000 in version 2), a percent over 100 or a fixed
 	 * amount over the most. */
 	WEIGHTROSE_SCHEDULE_RATES = 4,
-	/* The book is shorter than its header of 40 bytes. */
+	/* The book, or the buffer that it lies in, is shorter than its header of 40 bytes. */
 	WEIGHTROSE_BOOK_LENGTH = 5,
 	/* The book does not start with "ACB" and a zero byte, byte 12 is not 0 or 1, or bytes 13 to
 	 * 15 are not zero. */
 	WEIGHTROSE_BOOK_MARK = 6,
 	/* The book's version is neither 1 nor 2; of a book to be converted, it is not 1. */
 	WEIGHTROSE_BOOK_VERSION = 7,
-	/* The book has more records than it may, or another length than its counts say. */
+	/* The book has more records than it may, or another length than its counts say; of a
+	 * movement, its buffer is shorter than they say, or it has 900 assets and one is added. */
 	WEIGHTROSE_BOOK_COUNTS = 8,
 	/* The book's total, capital base or excluded assets are out of range. */
 	WEIGHTROSE_BOOK_AMOUNTS = 9,
@@ -280,13 +332,15 @@ enum weightrose_refusal {
 	WEIGHTROSE_ASSET = 11,
 	/* A mitigant has a bad field, an unknown bit or an amount over the most. The place is its own. */
 	WEIGHTROSE_MITIGANT = 12,
-	/* The assets' counts of mitigants do not add up to the book's mitigants. */
+	/* The assets' counts of mitigants do not add up to the book's mitigants; so it is where an
+	 * asset to be added has a count that is not 0. */
 	WEIGHTROSE_MITIGANT_COUNTS = 13,
 	/* The values of reinsurance assets add up to more than the total assets. */
 	WEIGHTROSE_REINSURANCE_VALUES = 14,
 	/* The assets under stress (VAF', paragraph 20) are below 0 or over the most. */
 	WEIGHTROSE_STRESSED_ASSETS = 15,
-	/* The buffer is shorter than the report, than the book to be converted, or than the bills. */
+	/* The buffer is shorter than the report, than the book to be converted, or than the bills; of
+	 * a movement, one of its two buffers is shorter than the new book or than its report. */
 	WEIGHTROSE_BUFFER_SHORT = 16,
 	/* An asset, linked or not, has entry class 3 in a book that is no specialist fund's. The
 	 * place is its own, the first such asset's. Checked after 13 and before 14. */
@@ -301,11 +355,16 @@ enum weightrose_refusal {
 	 * The place is 0. Checked after 15 and before 21. */
 	WEIGHTROSE_QUESTIONS = 20,
 	/* The buffer is shorter than eight bytes a question. Checked last. */
-	WEIGHTROSE_ANSWERS_SHORT = 21
+	WEIGHTROSE_ANSWERS_SHORT = 21,
+	/* The asset to be taken away is not there: its place is 0 or over the book's assets; or the
+	 * record to be added is not of 48 bytes. The place is 0. Checked after 15 of the book as it
+	 * stands and before all checks of the book that would result. */
+	WEIGHTROSE_MOVEMENT = 22
 };
 
-/* The refusal of an answer of weightrose_report(), weightrose_convert(), weightrose_bills() or
- * weightrose_headroom(), WEIGHTROSE_ACCEPTED where bytes were written or no question was asked. */
+/* The refusal of an answer of weightrose_report(), weightrose_convert(), weightrose_bills(),
+ * weightrose_headroom(), weightrose_add() or weightrose_remove(), WEIGHTROSE_ACCEPTED where bytes
+ * were written or no question was asked. */
 static inline enum weightrose_refusal
 weightrose_refusal_of(uint64_t answer)
 {
@@ -313,8 +372,9 @@ weightrose_refusal_of(uint64_t answer)
 }
 
 /* The place of a refused record, counted from 1: of the counterparty, asset or mitigant where the
- * refusal is of one of these (10, 11 and 12, and 17 and 18 for an asset), otherwise 0. Only for an
- * answer with a refusal. */
+ * refusal is of one of these (10, 11 and 12, and 17 and 18 for an asset), otherwise 0. Of a movement
+ * it is a place of the book that is refused, and an asset to be added has the place behind the last.
+ * Only for an answer with a refusal. */
 static inline uint32_t
 weightrose_place_of(uint64_t answer)
 {
@@ -322,7 +382,7 @@ weightrose_place_of(uint64_t answer)
 }
 
 /* The bytes that were written: those of the report, of the converted book, of the bills, or of the
- * answers to questions. Only for an answer without a refusal. */
+ * answers to questions; of a movement, those of the report. Only for an answer without a refusal. */
 static inline size_t
 weightrose_length_of(uint64_t answer)
 {
@@ -498,10 +558,55 @@ weightrose_headroom(const uint8_t *schedule, size_t schedule_len,
 		    uint8_t *answers, size_t answers_len);
 
 /*
+ * weightrose_add() adds an asset to the book that stands at the start of a buffer. It reads
+ * 'schedule_len' bytes at 'schedule' and 'record_len' bytes at 'record', the record of an asset
+ * without mitigants, and changes neither; 'book_len' is the length of the buffer at 'book', which
+ * has a book of either version at its start. If schedule and book would be accepted by
+ * weightrose_report(), whatever the length of the report, 'record_len' is WEIGHTROSE_ASSET_SIZE, the
+ * book with the asset behind its last asset would be accepted likewise, and neither is that book
+ * longer than 'book_len' nor its report longer than 'report_len', it leaves that book, 48 bytes
+ * longer than the old one, at 'book', writes its report at 'report' and returns the report's length;
+ * the bytes of both buffers behind book and report stay as they were. Otherwise it returns a refusal
+ * and changes no byte of either buffer. Answers are taken apart as those of weightrose_report(). A
+ * caller lends WEIGHTROSE_MOST_BOOK_SIZE bytes for the book and WEIGHTROSE_MOST_REPORT_SIZE for the
+ * report, and neither is ever too short. The two buffers must be apart from each other and from
+ * schedule and record; no other thread may change schedule or record, or read or change either
+ * buffer, during the call. A pointer may be NULL where its length is 0. What is in the report's
+ * buffer beforehand, and behind the book in its own, does not matter and is not read.
+ */
+uint64_t
+weightrose_add(const uint8_t *schedule, size_t schedule_len,
+	       const uint8_t *record, size_t record_len,
+	       uint8_t *book, size_t book_len,
+	       uint8_t *report, size_t report_len);
+
+/*
+ * weightrose_remove() takes an asset, with all its mitigants, away from the book that stands at the
+ * start of a buffer. 'place' is the asset's, counted from 1; any number may be handed in, and one
+ * that is 0 or over the book's number of assets is refused. It reads 'schedule_len' bytes at
+ * 'schedule' and does not change them; 'book_len' is the length of the buffer at 'book', which has a
+ * book of either version at its start. If schedule and book would be accepted by
+ * weightrose_report(), whatever the length of the report, the place is an asset's, the book without
+ * that asset and its mitigants would be accepted likewise, and its report is not longer than
+ * 'report_len', it leaves that book, shorter by 48 bytes and by 12 for each of those mitigants, at
+ * 'book', writes its report at 'report' and returns the report's length; the bytes of both buffers
+ * behind book and report stay as they were. Otherwise it returns a refusal and changes no byte of
+ * either buffer. The report of the shorter book may be the longer one. Answers are taken apart as
+ * those of weightrose_report(), and of buffers, pointers and threads the same holds as of
+ * weightrose_add(). An asset that was added last and is taken away again leaves the book's bytes as
+ * they were before it came; the 48 bytes behind them are then the last of the longer book.
+ */
+uint64_t
+weightrose_remove(const uint8_t *schedule, size_t schedule_len, uint64_t place,
+		  uint8_t *book, size_t book_len,
+		  uint8_t *report, size_t report_len);
+
+/*
  * weightrose_published() writes the published schedule (LPS 117, Attachment A, paragraphs 1 to 3),
  * of version 1, 122 bytes, at 'schedule' and returns 122; bytes behind these stay as they were. If
  * 'schedule_len' is below 122, it returns 0 and changes nothing. The schedule it writes is always
- * accepted by weightrose_report(), weightrose_bills() and weightrose_headroom().
+ * accepted by weightrose_report(), weightrose_bills(), weightrose_headroom(), weightrose_add() and
+ * weightrose_remove().
  */
 uint64_t
 weightrose_published(uint8_t *schedule, size_t schedule_len);
@@ -646,6 +751,21 @@ static inline uint64_t
 weightrose_answer(const uint8_t *answers, unsigned number)
 {
 	return weightrose_u64(answers + (size_t)number * WEIGHTROSE_ANSWER_SIZE);
+}
+
+/* ========================================================================== */
+/*                           A book after a movement                          */
+/* ========================================================================== */
+
+/* The bytes of a book as its counts say, whatever is behind them. The header's 40 bytes must be
+ * there. Of a book after a movement this is the length that the other functions take. */
+static inline size_t
+weightrose_book_length(const uint8_t *book)
+{
+	return WEIGHTROSE_BOOK_HEADER_SIZE +
+	       (size_t)weightrose_u16(book + 6) * WEIGHTROSE_COUNTERPARTY_SIZE +
+	       (size_t)weightrose_u16(book + 8) * WEIGHTROSE_ASSET_SIZE +
+	       (size_t)weightrose_u16(book + 10) * WEIGHTROSE_MITIGANT_SIZE;
 }
 
 #ifdef __cplusplus

@@ -16,7 +16,7 @@ from weightrose.refusals import Refusal
 
 Bytes = Union[bytes, bytearray, memoryview]
 
-VERSION = (0, 10, 0)
+VERSION = (0, 11, 0)
 
 MOST_AMOUNT = 10**13
 MOST_REPORT_SIZE = 96072
@@ -56,6 +56,8 @@ _SIGNATURES = {
     "weightrose_convert": [_DATA, _SIZE, _DATA, _SIZE],
     "weightrose_bills": [_DATA, _SIZE, _DATA, _SIZE, ctypes.c_uint64, _DATA, _SIZE],
     "weightrose_headroom": [_DATA, _SIZE, _DATA, _SIZE, _DATA, _SIZE, _DATA, _SIZE],
+    "weightrose_add": [_DATA, _SIZE, _DATA, _SIZE, _DATA, _SIZE, _DATA, _SIZE],
+    "weightrose_remove": [_DATA, _SIZE, ctypes.c_uint64, _DATA, _SIZE, _DATA, _SIZE],
 }
 
 _loaded: Optional[ctypes.CDLL] = None

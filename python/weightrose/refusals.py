@@ -30,6 +30,7 @@ class RefusalNumber(enum.IntEnum):
     COST_RATE = 19
     QUESTIONS = 20
     ANSWERS_SHORT = 21
+    MOVEMENT = 22
 
 
 MEANINGS = {
@@ -54,6 +55,7 @@ MEANINGS = {
     RefusalNumber.COST_RATE: "the cost rate is over 1,000 ten-thousandths",
     RefusalNumber.QUESTIONS: "a question's counterparty is not in the book, its kind can't be bought, or there are over 200",
     RefusalNumber.ANSWERS_SHORT: "too few bytes were lent for the answers",
+    RefusalNumber.MOVEMENT: "the asset to be taken away is not there, or the record to be added is not of 48 bytes",
 }
 
 # The file of a folder of CSV that a refusal speaks of; row and record are those of the place.

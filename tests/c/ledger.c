@@ -8,9 +8,9 @@
  * desk (C-13), bills the desks for the capital that their excesses tie up (C-14), moves its
  * schedule to rates in ten-thousandths (C-15), asks how much more its dealers may buy (C-16), looks
  * at lines whose limits are equal in cents alone (C-17), covers treaties with one reinsurer (C-18),
- * asks at its start whether the library is the one that it was compiled for, and ends with status 1
- * where anything differs. Each block is as long as its bytes, so that a memory checker sees any byte
- * read or written past its end.
+ * keeps its book current through days of movements (C-19), asks at its start whether the library is
+ * the one that it was compiled for, and ends with status 1 where anything differs. Each block is as
+ * long as its bytes, so that a memory checker sees any byte read or written past its end.
  */
 #include "weightrose.h"
 
@@ -247,6 +247,8 @@ sentence(enum weightrose_refusal refusal)
 		return "The dealers' list asks too much, or what cannot be asked.";
 	case WEIGHTROSE_ANSWERS_SHORT:
 		return "The buffer is too short for the answers.";
+	case WEIGHTROSE_MOVEMENT:
+		return "There is no asset at that place, or the new one's record is not of 48 bytes.";
 	}
 	return "The answer is not one of this library's.";
 }
@@ -1395,6 +1397,609 @@ half_of_a_reinsurer(void)
 	expect_lines("C-18, a registered reinsurer", &ledger, on_registered, COUNT(on_registered), 0);
 }
 
+/* ---- Movements through the day ---- */
+
+/* What the ledger holds, in its own records: the arrays that its ledger points to, and each asset's
+ * desk. */
+struct holdings {
+	struct ledger ledger;
+	struct asset assets[WEIGHTROSE_MOST_ASSETS];
+	uint8_t desks[WEIGHTROSE_MOST_ASSETS];
+	struct mitigant mitigants[WEIGHTROSE_MOST_MITIGANTS];
+};
+
+static void
+hold(struct holdings *held, const struct asset *asset, uint8_t desk)
+{
+	held->assets[held->ledger.asset_count] = *asset;
+	held->desks[held->ledger.asset_count] = desk;
+	held->ledger.asset_count++;
+}
+
+/* Drops the asset at a place, from 1, and the mitigants that are its own. */
+static void
+drop(struct holdings *held, size_t place)
+{
+	size_t at = place - 1;
+	size_t count = held->assets[at].mitigants;
+	size_t first = 0;
+	size_t i;
+
+	for (i = 0; i < at; i++)
+		first += held->assets[i].mitigants;
+	held->ledger.asset_count--;
+	held->ledger.mitigant_count -= count;
+	for (i = at; i < held->ledger.asset_count; i++) {
+		held->assets[i] = held->assets[i + 1];
+		held->desks[i] = held->desks[i + 1];
+	}
+	for (i = first; i < held->ledger.mitigant_count; i++)
+		held->mitigants[i] = held->mitigants[i + count];
+}
+
+/* A day: what is held, and the book of that version in a buffer of its own, with another one for
+ * reports. */
+struct day {
+	struct holdings *held;
+	uint8_t version;
+	struct block schedule, book, report;
+};
+
+/* The book of what is held now, made afresh. */
+static struct block
+book_afresh(const struct day *day)
+{
+	struct block book = new_book(&day->held->ledger);
+
+	put_u16(book.bytes + 4, day->version);
+	if (day->version == 2)
+		book_at_desks(book, &day->held->ledger, day->held->desks);
+	return book;
+}
+
+static struct block
+new_copy(struct block block)
+{
+	struct block copy = new_block(block.length);
+
+	memcpy(copy.bytes, block.bytes, block.length);
+	return copy;
+}
+
+/* The start of a day with these records, each asset at the desk of its place: a buffer with the book
+ * and so many bytes more, all of them 0xa5, and the largest buffer for reports. */
+static struct day
+new_day(const struct ledger *start, uint8_t version, size_t more)
+{
+	struct day day;
+	struct block book;
+	size_t i;
+
+	day.held = (struct holdings *)malloc(sizeof(*day.held));
+	if (!day.held)
+		abort();
+	day.held->ledger = *start;
+	day.held->ledger.assets = day.held->assets;
+	day.held->ledger.asset_count = 0;
+	day.held->ledger.mitigants = day.held->mitigants;
+	for (i = 0; i < start->asset_count; i++)
+		hold(day.held, &start->assets[i], (uint8_t)(i + 1));
+	for (i = 0; i < start->mitigant_count; i++)
+		day.held->mitigants[i] = start->mitigants[i];
+	day.version = version;
+	day.schedule = new_schedule();
+	book = book_afresh(&day);
+	day.book = new_block(book.length + more);
+	memset(day.book.bytes, 0xa5, day.book.length);
+	memcpy(day.book.bytes, book.bytes, book.length);
+	day.report = new_block(WEIGHTROSE_MOST_REPORT_SIZE);
+	free(book.bytes);
+	return day;
+}
+
+static void
+end_day(struct day day)
+{
+	free(day.held);
+	free(day.schedule.bytes);
+	free(day.book.bytes);
+	free(day.report.bytes);
+}
+
+/* Takes another block for one of the day's, and frees the old one. */
+static void
+lend(struct block *old, struct block other)
+{
+	free(old->bytes);
+	*old = other;
+}
+
+/* An asset's record as that day's version has it. */
+static struct block
+new_record(const struct day *day, const struct asset *asset, uint8_t desk)
+{
+	struct block record = new_block(WEIGHTROSE_ASSET_SIZE);
+
+	put_asset(record.bytes, asset);
+	if (day->version == 2)
+		record.bytes[7] = desk;
+	return record;
+}
+
+/* The two movements, each into a report's buffer full of 0xa5. */
+
+static uint64_t
+add(const struct day *day, struct block record)
+{
+	memset(day->report.bytes, 0xa5, day->report.length);
+	return weightrose_add(day->schedule.bytes, day->schedule.length, record.bytes, record.length,
+			      day->book.bytes, day->book.length, day->report.bytes,
+			      day->report.length);
+}
+
+static uint64_t
+take_away(const struct day *day, uint64_t place)
+{
+	memset(day->report.bytes, 0xa5, day->report.length);
+	return weightrose_remove(day->schedule.bytes, day->schedule.length, place, day->book.bytes,
+				 day->book.length, day->report.bytes, day->report.length);
+}
+
+/* Expects the book and the report that are made afresh of what is held now, at the start of their
+ * buffers, and behind them the bytes from before the movement, to the last. */
+static void
+expect_afresh(const struct day *day, struct block book_before, uint64_t answer)
+{
+	struct block book = book_afresh(day);
+	struct block report = report_under(day->schedule, book);
+	struct block room = new_block(day->report.length);
+
+	printf("  %" PRIu64 " assets, %" PRIu64 " mitigants, charge %" PRIu64 "\n",
+	       (uint64_t)day->held->ledger.asset_count, (uint64_t)day->held->ledger.mitigant_count,
+	       weightrose_u64(report.bytes + WEIGHTROSE_HEADER_CHARGE));
+	if (book.length > book_before.length || report.length > room.length)
+		abort();
+	expect(answer == report.length, "C-19: a movement's answer");
+	expect(weightrose_book_length(day->book.bytes) == book.length, "C-19: the book's length");
+	memcpy(book_before.bytes, book.bytes, book.length);
+	expect_same(day->book, book_before, "C-19: a byte of the book, or behind it");
+	memset(room.bytes, 0xa5, room.length);
+	memcpy(room.bytes, report.bytes, report.length);
+	expect_same(day->report, room, "C-19: a byte of the report, or behind it");
+	free(book.bytes);
+	free(report.bytes);
+	free(room.bytes);
+}
+
+static void
+expect_added(const struct day *day, const struct asset *asset, uint8_t desk)
+{
+	struct block before = new_copy(day->book);
+	struct block record = new_record(day, asset, desk);
+	uint64_t answer = add(day, record);
+
+	printf("C-19: kind %u with %u added\n", (unsigned)asset->kind, (unsigned)asset->counterparty);
+	hold(day->held, asset, desk);
+	expect_afresh(day, before, answer);
+	free(before.bytes);
+	free(record.bytes);
+}
+
+static void
+expect_removed(const struct day *day, size_t place)
+{
+	struct block before = new_copy(day->book);
+	uint64_t answer = take_away(day, place);
+
+	printf("C-19: asset %u taken away\n", (unsigned)place);
+	drop(day->held, place);
+	expect_afresh(day, before, answer);
+	free(before.bytes);
+}
+
+/* Expects the refusal, its place and both buffers as they were. */
+
+static void
+expect_record_refused(const struct day *day, struct block record, enum weightrose_refusal refusal,
+		      uint32_t place)
+{
+	struct block before = new_copy(day->book);
+	uint64_t answer = add(day, record);
+
+	expect_refused("not added,", answer, refusal, place, day->report);
+	expect_same(day->book, before, "C-19: a refused addition changed the book's buffer");
+	free(before.bytes);
+}
+
+static void
+expect_not_added(const struct day *day, const struct asset *asset, enum weightrose_refusal refusal,
+		 uint32_t place)
+{
+	struct block record = new_record(day, asset, 0);
+
+	expect_record_refused(day, record, refusal, place);
+	free(record.bytes);
+}
+
+static void
+expect_not_removed(const struct day *day, uint64_t place, enum weightrose_refusal refusal,
+		   uint32_t record)
+{
+	struct block before = new_copy(day->book);
+	uint64_t answer = take_away(day, place);
+
+	expect_refused("not taken away,", answer, refusal, record, day->report);
+	expect_same(day->book, before, "C-19: a refused removal changed the book's buffer");
+	free(before.bytes);
+}
+
+/* The charge that the last movement of a day has written. */
+static void
+expect_charge_now(const struct day *day, uint64_t charge)
+{
+	expect(weightrose_u64(day->report.bytes + WEIGHTROSE_HEADER_CHARGE) == charge,
+	       "C-19: the charge after a movement");
+}
+
+/* A name with two assets and a bank with a deposit, each asset with cash of that bank: two, one and
+ * one. The name has 250,000,000 in tier i, all that its limit allows, and 190,000,000 in tier h. */
+static struct ledger
+morning_ledger(void)
+{
+	static const struct counterparty names[] = { { NO_PARENT, 0, UNGRADED, 0 },
+						     { NO_PARENT, BANK, 1, 0 } };
+	static const struct asset assets[] = {
+		{ ANY_OTHER, 1, 300000000, 0, 2, NO_ENTRY, 0 },
+		{ TRADED, 1, 200000000, 0, 1, NO_ENTRY, 0 },
+		{ DEPOSIT, 2, 1000000000, 0, 1, NO_ENTRY, 0 },
+	};
+	static const struct mitigant cash[] = {
+		{ CASH, 31, 2, 30000000 },
+		{ CASH, 31, 2, 20000000 },
+		{ CASH, 31, 2, 10000000 },
+		{ CASH, 31, 2, 5000000 },
+	};
+	struct ledger ledger = ledger_of(names, COUNT(names), assets, COUNT(assets));
+
+	ledger.mitigants = cash;
+	ledger.mitigant_count = COUNT(cash);
+	return ledger;
+}
+
+static const struct asset purchase = { TRADED, 1, 400000000, 0, 0, NO_ENTRY, 0 };
+
+/*
+ * A day of a ledger: it buys, and tier h has 590,000,000, where tier i leaves 250,000,000 of a limit
+ * of 500,000,000; what was in tier i goes with its cash, and 90,000,000 are left above that limit;
+ * what was bought goes again, then all the rest. Refusals in between change nothing. The empty book
+ * takes assets again, and another day starts with a larger total, which gives tier h a limit of
+ * 540,000,000.
+ */
+static void
+movements(uint8_t version)
+{
+	struct ledger start = morning_ledger();
+	struct day day = new_day(&start, version, 5 + WEIGHTROSE_ASSET_SIZE);
+
+	expect_added(&day, &purchase, 200);
+	expect_charge_now(&day, 340000000);
+	expect_not_removed(&day, 0, WEIGHTROSE_MOVEMENT, 0);
+	expect_not_removed(&day, 5, WEIGHTROSE_MOVEMENT, 0);
+	expect_not_removed(&day, UINT64_C(0x10001), WEIGHTROSE_MOVEMENT, 0);
+	expect_not_removed(&day, UINT64_C(0x100000001), WEIGHTROSE_MOVEMENT, 0);
+	expect_not_removed(&day, UINT64_MAX, WEIGHTROSE_MOVEMENT, 0);
+	expect_removed(&day, 1);
+	expect_charge_now(&day, 90000000);
+	expect_not_removed(&day, 4, WEIGHTROSE_MOVEMENT, 0);
+	expect_removed(&day, 3);
+	expect_charge_now(&day, 0);
+	expect_removed(&day, 2);
+	expect_removed(&day, 1);
+	expect(weightrose_book_length(day.book.bytes) ==
+	       WEIGHTROSE_BOOK_HEADER_SIZE + 2 * WEIGHTROSE_COUNTERPARTY_SIZE,
+	       "C-19: more than two counterparties in the evening");
+	expect_not_removed(&day, 1, WEIGHTROSE_MOVEMENT, 0);
+	expect_added(&day, &purchase, 0);
+	expect_added(&day, &purchase, 255);
+	expect_charge_now(&day, 300000000);
+
+	/* The total follows by the ledger's own hand. */
+	day.held->ledger.total_assets += 800000000;
+	put_u64(day.book.bytes + 16, day.held->ledger.total_assets);
+	expect_added(&day, &purchase, 1);
+	expect_charge_now(&day, 660000000);
+	end_day(day);
+}
+
+/* Each place of the morning's book by itself; and what was added goes again, and leaves the book's
+ * old bytes. */
+static void
+there_and_back(uint8_t version)
+{
+	struct ledger start = morning_ledger();
+	struct day day;
+	struct block old;
+	size_t place;
+
+	for (place = 1; place <= start.asset_count; place++) {
+		day = new_day(&start, version, 0);
+		expect_removed(&day, place);
+		end_day(day);
+	}
+	day = new_day(&start, version, WEIGHTROSE_ASSET_SIZE);
+	old = book_afresh(&day);
+	expect_added(&day, &purchase, 9);
+	expect(memcmp(day.book.bytes, old.bytes, old.length) != 0, "C-19: nothing was added");
+	expect_removed(&day, start.asset_count + 1);
+	expect(memcmp(day.book.bytes, old.bytes, old.length) == 0,
+	       "C-19: the old book was not had again");
+	free(old.bytes);
+	end_day(day);
+}
+
+/* Records of other lengths: refused before anything is asked of what they hold or would need, and
+ * after the book as it stands. */
+static void
+records_of_other_lengths(void)
+{
+	static const size_t lengths[] = { 0, 1, WEIGHTROSE_ASSET_SIZE - 1, WEIGHTROSE_ASSET_SIZE + 1,
+					  2 * WEIGHTROSE_ASSET_SIZE };
+	const struct block none = { NULL, 0 };
+	struct ledger start = morning_ledger();
+	struct day day = new_day(&start, 1, 0);
+	size_t i;
+
+	lend(&day.report, new_block(0));
+	for (i = 0; i < COUNT(lengths); i++) {
+		struct block record = new_block(lengths[i]);
+
+		memset(record.bytes, 0xff, record.length);
+		expect_record_refused(&day, record, WEIGHTROSE_MOVEMENT, 0);
+		free(record.bytes);
+	}
+	expect_record_refused(&day, none, WEIGHTROSE_MOVEMENT, 0);
+	day.book.bytes[4] = 3;
+	expect_record_refused(&day, none, WEIGHTROSE_BOOK_VERSION, 0);
+	expect_not_removed(&day, 0, WEIGHTROSE_BOOK_VERSION, 0);
+	day.schedule.bytes[4] = 3;
+	expect_record_refused(&day, none, WEIGHTROSE_SCHEDULE_VERSION, 0);
+	expect_not_removed(&day, 0, WEIGHTROSE_SCHEDULE_VERSION, 0);
+	end_day(day);
+}
+
+/* Records that the book with them would be refused for, by its number and at the new place, even
+ * where neither buffer has room; the first one counts a mitigant as its own besides. */
+static void
+records_refused(uint8_t version)
+{
+	static const struct asset nobodys = { TRADED, 0, 1, 0, 1, NO_ENTRY, 0 };
+	static const struct asset too_much = { TRADED, 1, WEIGHTROSE_MOST_AMOUNT + 1, 0, 0,
+					       NO_ENTRY, 0 };
+	static const struct asset retrocession = { REINSURANCE, 1, 5, 5, 0, RETROCESSION, 0 };
+	static const struct asset counted = { TRADED, 1, 1, 0, 1, NO_ENTRY, 0 };
+	static const struct asset counted_256 = { TRADED, 1, 1, 0, 256, NO_ENTRY, 0 };
+	static const struct asset over_total = { REINSURANCE, 1, UINT64_C(10000000001), 0, 0,
+						 NO_ENTRY, 0 };
+	static const struct asset over_most = { REINSURANCE, 1, 0, WEIGHTROSE_MOST_AMOUNT, 0,
+						NO_ENTRY, 0 };
+	struct ledger start = morning_ledger();
+	struct day day = new_day(&start, version, 0);
+
+	lend(&day.report, new_block(0));
+	expect_not_added(&day, &nobodys, WEIGHTROSE_ASSET, 4);
+	expect_not_added(&day, &too_much, WEIGHTROSE_ASSET, 4);
+	expect_not_added(&day, &counted, WEIGHTROSE_MITIGANT_COUNTS, 0);
+	expect_not_added(&day, &retrocession, WEIGHTROSE_SPECIALIST_ENTRY, 4);
+	expect_not_added(&day, &over_total, WEIGHTROSE_REINSURANCE_VALUES, 0);
+	expect_not_added(&day, &over_most, WEIGHTROSE_STRESSED_ASSETS, 0);
+	end_day(day);
+
+	/* Byte 7 is of the count in version 1, and a desk in version 2. */
+	day = new_day(&start, version, WEIGHTROSE_ASSET_SIZE);
+	if (version == 1)
+		expect_not_added(&day, &counted_256, WEIGHTROSE_MITIGANT_COUNTS, 0);
+	else
+		expect_added(&day, &purchase, 1);
+	end_day(day);
+}
+
+/* Treaties that cannot go: without the first one's stress of 10 less is left than the 11 that are
+ * excluded, and without its value of the most the assets under stress are over the most. */
+static void
+removals_refused(void)
+{
+	static const struct counterparty names[] = { { NO_PARENT, 0, UNGRADED, 0 } };
+	static const struct asset stressed[] = {
+		{ REINSURANCE, 1, 5, 10, 0, NO_ENTRY, 0 },
+		{ TRADED, 1, 5, 0, 0, NO_ENTRY, 0 },
+	};
+	static const struct asset valued[] = {
+		{ REINSURANCE, 1, WEIGHTROSE_MOST_AMOUNT, 0, 0, NO_ENTRY, 0 },
+		{ REINSURANCE, 1, 0, 1, 0, NO_ENTRY, 0 },
+	};
+	struct ledger start = ledger_of(names, COUNT(names), stressed, COUNT(stressed));
+	struct day day;
+
+	start.total_assets = 10;
+	start.excluded_assets = 11;
+	day = new_day(&start, 1, 0);
+	expect_not_removed(&day, 1, WEIGHTROSE_STRESSED_ASSETS, 0);
+	expect_removed(&day, 2);
+	lend(&day.report, new_block(0));
+	expect_not_removed(&day, 1, WEIGHTROSE_STRESSED_ASSETS, 0);
+	end_day(day);
+
+	start.assets = valued;
+	start.total_assets = WEIGHTROSE_MOST_AMOUNT;
+	start.excluded_assets = 0;
+	day = new_day(&start, 1, 0);
+	expect_not_removed(&day, 1, WEIGHTROSE_STRESSED_ASSETS, 0);
+	expect_removed(&day, 2);
+	expect_removed(&day, 1);
+	end_day(day);
+}
+
+/* A buffer that is a byte too short for the book with the new asset, or for its report, and one that
+ * has just room. */
+static void
+buffers_of_a_day(void)
+{
+	enum { LINES = 4, LENGTH = WEIGHTROSE_REPORT_HEADER_SIZE + LINES * WEIGHTROSE_REPORT_LINE_SIZE };
+	static const struct asset loan = { LOAN, 2, 1, 0, 0, NO_ENTRY, 0 };
+	struct ledger start = morning_ledger();
+	struct day day = new_day(&start, 1, WEIGHTROSE_ASSET_SIZE - 1);
+
+	expect_not_added(&day, &loan, WEIGHTROSE_BUFFER_SHORT, 0);
+	end_day(day);
+	day = new_day(&start, 1, WEIGHTROSE_ASSET_SIZE);
+	lend(&day.report, new_block(LENGTH - 1));
+	expect_not_added(&day, &loan, WEIGHTROSE_BUFFER_SHORT, 0);
+	lend(&day.report, new_block(0));
+	expect_not_added(&day, &loan, WEIGHTROSE_BUFFER_SHORT, 0);
+	lend(&day.report, new_block(LENGTH));
+	expect_added(&day, &loan, 0);
+	expect_not_added(&day, &loan, WEIGHTROSE_BUFFER_SHORT, 0);
+	lend(&day.report, new_block(LENGTH - 1));
+	expect_not_removed(&day, 3, WEIGHTROSE_BUFFER_SHORT, 0);
+	expect_removed(&day, 4);
+	end_day(day);
+}
+
+/*
+ * A treaty without mitigants goes, half of what is left covers less of the other treaty, and what is
+ * not covered of that one has a line of its own: the report of the shorter book is the longer one.
+ */
+static void
+longer_report_of_less(void)
+{
+	enum { LENGTH = WEIGHTROSE_REPORT_HEADER_SIZE + 3 * WEIGHTROSE_REPORT_LINE_SIZE };
+	static const struct counterparty names[] = { { NO_PARENT, 0, UNGRADED, 0 },
+						     { NO_PARENT, BANK, 1, 0 },
+						     { 1, 0, UNGRADED, 0 } };
+	static const struct asset treaties[] = {
+		{ REINSURANCE, 1, 101, 101, 0, NO_ENTRY, 0 },
+		{ REINSURANCE, 1, 99, 99, 1, ITEM_E, 0 },
+		{ REINSURANCE, 3, 5, 5, 0, NO_ENTRY, 0 },
+	};
+	static const struct mitigant letter[] = { { LETTER, TERMS_OF_42, 2, 101 } };
+	struct ledger start = ledger_of(names, COUNT(names), treaties, COUNT(treaties));
+	struct block report;
+	struct day day;
+
+	start.mitigants = letter;
+	start.mitigant_count = COUNT(letter);
+	day = new_day(&start, 1, 0);
+	report = report_under(day.schedule, day.book);
+	expect(report.length == LENGTH - WEIGHTROSE_REPORT_LINE_SIZE, "C-19: two lines of the start");
+	lend(&day.report, new_block(LENGTH - 1));
+	expect_not_removed(&day, 1, WEIGHTROSE_BUFFER_SHORT, 0);
+	lend(&day.report, new_block(LENGTH));
+	expect_removed(&day, 1);
+	free(report.bytes);
+	end_day(day);
+}
+
+/* Lends the first bytes of a book alone, and expects either movement to be refused. */
+static void
+expect_cut_refused(struct day *day, struct block book, size_t length,
+		   enum weightrose_refusal refusal)
+{
+	lend(&day->book, new_block(length));
+	memcpy(day->book.bytes, book.bytes, length);
+	expect_not_added(day, &purchase, refusal, 0);
+	expect_not_removed(day, 1, refusal, 0);
+}
+
+/* The book as it stands: longer than its buffer, and with a bad asset, which cannot be taken away
+ * either. Empty blocks may have no address. */
+static void
+standing_books_refused(void)
+{
+	struct ledger start = morning_ledger();
+	struct day day = new_day(&start, 1, 0);
+	struct block book = new_copy(day.book);
+	uint8_t *second = book.bytes + WEIGHTROSE_BOOK_HEADER_SIZE +
+			  start.counterparty_count * WEIGHTROSE_COUNTERPARTY_SIZE +
+			  WEIGHTROSE_ASSET_SIZE;
+
+	expect_cut_refused(&day, book, 0, WEIGHTROSE_BOOK_LENGTH);
+	expect_cut_refused(&day, book, WEIGHTROSE_BOOK_HEADER_SIZE - 1, WEIGHTROSE_BOOK_LENGTH);
+	expect_cut_refused(&day, book, WEIGHTROSE_BOOK_HEADER_SIZE, WEIGHTROSE_BOOK_COUNTS);
+	expect_cut_refused(&day, book, book.length - 1, WEIGHTROSE_BOOK_COUNTS);
+
+	second[0] = 0; /* its kind */
+	lend(&day.book, book);
+	expect_not_added(&day, &purchase, WEIGHTROSE_ASSET, 2);
+	expect_not_removed(&day, 2, WEIGHTROSE_ASSET, 2);
+	expect_not_removed(&day, 0, WEIGHTROSE_ASSET, 2);
+	expect(weightrose_refusal_of(weightrose_add(day.schedule.bytes, day.schedule.length, NULL, 0,
+						    NULL, 0, NULL, 0)) == WEIGHTROSE_BOOK_LENGTH &&
+	       weightrose_refusal_of(weightrose_remove(day.schedule.bytes, day.schedule.length, 1,
+						       NULL, 0, NULL, 0)) == WEIGHTROSE_BOOK_LENGTH,
+	       "C-19: no book at all");
+	expect(weightrose_refusal_of(weightrose_add(NULL, 0, NULL, 0, NULL, 0, NULL, 0)) ==
+	       WEIGHTROSE_SCHEDULE_LENGTH &&
+	       weightrose_refusal_of(weightrose_remove(NULL, 0, 1, NULL, 0, NULL, 0)) ==
+	       WEIGHTROSE_SCHEDULE_LENGTH, "C-19: nothing at all");
+	end_day(day);
+}
+
+/* 899 assets of all kinds, with 1,500 mitigants and 500 counterparties in twenty groups. */
+static struct ledger
+nearly_largest_ledger(void)
+{
+	static struct counterparty names[WEIGHTROSE_MOST_COUNTERPARTIES];
+	static struct asset assets[WEIGHTROSE_MOST_ASSETS - 1];
+	static struct mitigant cash[WEIGHTROSE_MOST_MITIGANTS];
+	struct ledger ledger = ledger_of(names, COUNT(names), assets, COUNT(assets));
+	size_t i;
+
+	for (i = 0; i < COUNT(names); i++) {
+		names[i].parent = (uint16_t)(i < 20 ? 0 : 1 + i % 20);
+		names[i].kind = (uint8_t)(i % 5);
+		names[i].grade = (uint8_t)(i % 8);
+	}
+	for (i = 0; i < COUNT(assets); i++) {
+		assets[i].kind = (uint8_t)(1 + i % 11);
+		assets[i].counterparty = (uint16_t)(1 + i % COUNT(names));
+		assets[i].value = 30000000 + i;
+		assets[i].combination_stress = assets[i].kind == REINSURANCE ? 30000000 : 0;
+		assets[i].mitigants = (uint16_t)(i < COUNT(cash) - COUNT(assets) ? 2 : 1);
+	}
+	for (i = 0; i < COUNT(cash); i++) {
+		cash[i].form = CASH;
+		cash[i].flags = 31;
+		cash[i].counterparty = (uint16_t)(1 + i * 7 % COUNT(names));
+		cash[i].value = 1000 + i;
+	}
+	ledger.mitigants = cash;
+	ledger.mitigant_count = COUNT(cash);
+	return ledger;
+}
+
+/* One more asset fills the largest buffer, and a 901st is refused, whatever its record. */
+static void
+largest_day(uint8_t version)
+{
+	static const struct asset kindless = { 0, 1, 1, 0, 0, NO_ENTRY, 0 };
+	const struct block none = { NULL, 0 };
+	struct ledger start = nearly_largest_ledger();
+	struct day day = new_day(&start, version, WEIGHTROSE_ASSET_SIZE);
+
+	expect(day.book.length == WEIGHTROSE_MOST_BOOK_SIZE, "C-19: the largest book's buffer");
+	expect_not_added(&day, &kindless, WEIGHTROSE_ASSET, WEIGHTROSE_MOST_ASSETS);
+	expect_added(&day, &purchase, 7);
+	expect_not_added(&day, &purchase, WEIGHTROSE_BOOK_COUNTS, 0);
+	expect_not_added(&day, &kindless, WEIGHTROSE_BOOK_COUNTS, 0);
+	expect_record_refused(&day, none, WEIGHTROSE_MOVEMENT, 0);
+	expect_not_removed(&day, WEIGHTROSE_MOST_ASSETS + 1, WEIGHTROSE_MOVEMENT, 0);
+	expect_removed(&day, 1);
+	expect_removed(&day, 450);
+	expect_removed(&day, WEIGHTROSE_MOST_ASSETS - 2);
+	expect_added(&day, &purchase, 7);
+	end_day(day);
+}
+
 static void
 published_into_too_little(void)
 {
@@ -1470,6 +2075,19 @@ main(void)
 	dealers_in_other_buffers();
 	near_tie();
 	half_of_a_reinsurer();
+	movements(1);
+	movements(2);
+	there_and_back(1);
+	there_and_back(2);
+	records_of_other_lengths();
+	records_refused(1);
+	records_refused(2);
+	removals_refused();
+	buffers_of_a_day();
+	longer_report_of_less();
+	standing_books_refused();
+	largest_day(1);
+	largest_day(2);
 	published_into_too_little();
 	printf("ledger: %d failures\n", failures);
 	return failures ? EXIT_FAILURE : EXIT_SUCCESS;

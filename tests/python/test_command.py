@@ -336,7 +336,7 @@ class Usage(Commands):
     @unittest.skipUnless(shutil.which("cc"), "there is no C compiler")
     def test_a_library_of_another_version(self) -> None:
         names = re.findall(r"^\t\t(weightrose_\w+);$", (books.ROOT / "tests/exports.map").read_text(), re.M)
-        self.assertEqual(len(names), 6)
+        self.assertEqual(len(names), 8)
         source = "".join(f"unsigned long long {name}(void) {{ return 0x6000600000900; }}\n" for name in names)
         (self.place / "other.c").write_text(source)
         subprocess.run(["cc", "-shared", "-fPIC", "other.c", "-o", "other.so"], cwd=self.place, check=True)

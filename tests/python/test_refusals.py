@@ -63,6 +63,7 @@ class Entries(unittest.TestCase):
 
     def test_every_refusal(self) -> None:
         schedule, book = library.published(), GOOD.to_bytes()
+        moved, lent = library._written, library._lent
         miscounted = bytearray(WITH_MITIGANTS.to_bytes())
         miscounted[40 + 4 + 2 * 48 + 6] = 1
         cases: List[Tuple[Callable[[], object], int, int, Optional[str], Optional[int]]] = [
@@ -104,6 +105,9 @@ class Entries(unittest.TestCase):
             (lambda: headroom(GOOD, [(1, 11)] * 201), 20, 0, None, None),
             (lambda: library.headroom(schedule, book, b"\1\0\x0b\1\0\4", room=15), 21, 0, None, None),
             (lambda: library.convert(book, room=len(book) - 1), 16, 0, None, None),
+            # Movements, for which the package has no functions; a refused one leaves the book's bytes alone.
+            (lambda: moved("weightrose_remove", 72, *lent(schedule), 3, *lent(book)), 22, 0, None, None),
+            (lambda: moved("weightrose_add", 72, *lent(schedule), *lent(b""), *lent(book)), 22, 0, None, None),
         ]
         seen: Set[int] = set()
         for call, number, place, file, row in cases:
@@ -114,7 +118,7 @@ class Entries(unittest.TestCase):
             self.assertEqual(refusal.name, RefusalNumber(number).name)
             self.assertIn(f"refused {number} {place} {refusal.name}: ", str(refusal))
             seen.add(number)
-        self.assertEqual(seen, set(range(1, 22)))
+        self.assertEqual(seen, set(range(1, 23)))
 
     def test_what_is_just_taken(self) -> None:
         """The buffers and rates one further than the ones refused above."""
