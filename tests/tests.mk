@@ -65,6 +65,8 @@ compare-before: $(WEIGHTROSE_LIB)
 	    --redefine-sym weightrose_convert=peer_convert \
 	    --redefine-sym weightrose_bills=peer_bills \
 	    --redefine-sym weightrose_headroom=peer_headroom \
+	    --redefine-sym weightrose_add=peer_add \
+	    --redefine-sym weightrose_remove=peer_remove \
 	    --redefine-sym weightrose_version=peer_version \
 	    --redefine-sym weightrose_published=peer_published $(BEFORE_LIB) $(TESTS_OUT)/libbefore.a
 	$(CARGO_ENV) YARDSTICK_LIB=$(abspath $(TESTS_OUT)/libbefore.a) \

@@ -1,7 +1,7 @@
 //! What the documents' cases ask of the library: a report by its fields, bills by desk, answers by
-//! question, or a refusal.
+//! question, a day's movements one by one, or a refusal.
 
-use crate::raw::{RawBook, RawQuestion};
+use crate::raw::{Movement, RawBook, RawQuestion};
 use crate::weightrose::{self, Answer, Refusal, ANSWER, BILLS, HEADER, LARGEST_REPORT, LINE};
 
 pub struct Report {
@@ -148,4 +148,49 @@ pub fn answers(book: &RawBook, questions: &[RawQuestion]) -> Vec<u64> {
 /// The refusal of a list of questions.
 pub fn not_answered(schedule: &[u8], book: &[u8], questions: &[u8], room: usize) -> Refusal {
     refused(room, |buffer| weightrose::headroom(schedule, book, questions, buffer))
+}
+
+/// A day (C-19): a schedule, and a lent buffer with a book at its start.
+#[derive(Clone)]
+pub struct Day {
+    pub schedule: Vec<u8>,
+    pub buffer: Vec<u8>,
+}
+
+impl Day {
+    /// Under the published schedule, with so many bytes behind the book.
+    pub fn of(book: &RawBook, room: usize) -> Day {
+        let mut buffer = book.bytes();
+        buffer.extend((0..room).map(|byte| 0x80 | byte as u8));
+        Day { schedule: weightrose::published().to_vec(), buffer }
+    }
+
+    fn call(&mut self, movement: &Movement, report: &mut [u8]) -> Answer {
+        let Day { schedule, buffer } = self;
+        match movement {
+            Movement::Add(record) => weightrose::add(schedule, record, buffer, report),
+            Movement::Remove(place) => weightrose::remove(schedule, *place, buffer, report),
+        }
+    }
+
+    /// The report after a movement that is accepted. No byte behind it is written.
+    pub fn report(&mut self, movement: &Movement) -> Report {
+        let mut report = vec![0xa5; LARGEST_REPORT];
+        let length = match self.call(movement, &mut report) {
+            Answer::Written(length) => length,
+            Answer::Refused(refusal) => panic!("{refusal:?}"),
+        };
+        assert!(report[length..].iter().all(|&byte| byte == 0xa5));
+        report.truncate(length);
+        Report { bytes: report }
+    }
+
+    /// The refusal of a movement with a buffer of that length for its report; both buffers must stay
+    /// as they were.
+    pub fn refusal(&mut self, movement: &Movement, room: usize) -> Refusal {
+        let before = self.buffer.clone();
+        let refusal = refused(room, |report| self.call(movement, report));
+        assert!(self.buffer == before, "a refusal changed the book's buffer");
+        refusal
+    }
 }

@@ -1,12 +1,13 @@
 //! One comparison: two subjects answer the same schedule and book, by themselves or with a cost rate
 //! or a list of questions, each with a buffer of its own between guard bytes, and must agree on the
-//! answer and on every byte.
+//! answer and on every byte. Of movements both keep the book in a buffer of their own through the
+//! day, and must agree after each of them.
 
-use crate::inputs::{Asking, Billing, Input, Room};
+use crate::inputs::{Asking, Billing, Input, Moving, Room, Step};
 use crate::random::Random;
-use crate::raw::{RawAsset, RawQuestion, MOST};
+use crate::raw::{Movement, RawAsset, RawQuestion, MOST};
 use crate::second::{self, Slip};
-use crate::weightrose::{self, Answer, ANSWER, LARGEST_REPORT, LINE, QUESTION};
+use crate::weightrose::{self, Answer, ANSWER, HEADER, LARGEST_REPORT, LINE, QUESTION};
 
 /// Guard bytes on each side of a lent buffer.
 pub const GUARD: usize = 64;
@@ -76,20 +77,28 @@ pub struct Difference {
 impl std::fmt::Display for Difference {
     fn fmt(&self, out: &mut std::fmt::Formatter) -> std::fmt::Result {
         let [one, other] = self.answers;
-        write!(out, "answers {one:#x} and {other:#x}, ")?;
-        match self.byte {
-            Some(byte) => write!(out, "bytes differ first at {byte}"),
-            None => write!(out, "bytes the same"),
-        }
+        write!(out, "answers {one:#x} and {other:#x}, {}", bytes_said(self.byte))
     }
+}
+
+fn bytes_said(differ_at: Option<i64>) -> String {
+    match differ_at {
+        Some(byte) => format!("bytes differ first at {byte}"),
+        None => "bytes the same".to_string(),
+    }
+}
+
+/// The first byte of two areas that differs, counted from the buffer's start.
+fn first_differing(one: &[u8], other: &[u8]) -> Option<i64> {
+    let place = one.iter().zip(other).position(|(one, other)| one != other);
+    place.map(|place| place as i64 - GUARD as i64)
 }
 
 impl Difference {
     fn of(one: &Outcome, other: &Outcome) -> Difference {
-        let byte = one.area.iter().zip(&other.area).position(|(one, other)| one != other);
         Difference {
             answers: [one.answer, other.answer],
-            byte: byte.map(|place| place as i64 - GUARD as i64),
+            byte: first_differing(&one.area, &other.area),
         }
     }
 }
@@ -312,6 +321,140 @@ pub fn may_be_bought(asking: &Asking, answers: &[u8]) -> Result<usize, String> {
         tried += 1;
     }
     Ok(tried)
+}
+
+/// Answers a schedule and a movement as the library does, packed: the book is in the first buffer, the
+/// report comes into the second.
+pub type Mover<'a> = &'a dyn Fn(&[u8], &Movement, &mut Lent, &mut Lent) -> u64;
+
+/// What a mover left after a movement: its answer, and both buffers with their guard bytes.
+#[derive(Clone, Debug, PartialEq, Eq)]
+pub struct Moved {
+    pub answer: u64,
+    pub book: Vec<u8>,
+    pub report: Vec<u8>,
+}
+
+impl Moved {
+    /// The book's buffer without its guard bytes.
+    pub fn book(&self) -> &[u8] {
+        &self.book[GUARD..self.book.len() - GUARD]
+    }
+
+    /// The report; nothing where the movement was refused.
+    pub fn report(&self) -> &[u8] {
+        match Answer::unpacked(self.answer) {
+            Some(Answer::Written(length)) => &self.report[GUARD..GUARD + length],
+            _ => &[],
+        }
+    }
+}
+
+/// Where two movers part: after which movement, from 1, and in which buffer.
+pub struct Parting {
+    pub movement: usize,
+    pub answers: [u64; 2],
+    /// The first byte that differs in the book's buffer and in the report's.
+    pub bytes: [Option<i64>; 2],
+}
+
+impl std::fmt::Display for Parting {
+    fn fmt(&self, out: &mut std::fmt::Formatter) -> std::fmt::Result {
+        let Parting { movement, answers: [one, other], bytes } = self;
+        let [book, report] = bytes.map(bytes_said);
+        write!(out, "movement {movement}: answers {one:#x} and {other:#x}, ")?;
+        write!(out, "of the book's buffer {book}, of the report's {report}")
+    }
+}
+
+/// The length of the report's buffer for a movement of a book: where the report decides, by the second
+/// implementation's.
+fn movement_room(schedule: &[u8], step: &Step, book: &[u8]) -> usize {
+    match step.room {
+        Room::Bytes(bytes) => bytes,
+        Room::Beside(more) => {
+            let length = second::length_after(schedule, &step.movement, book).unwrap_or(HEADER);
+            (length as i64 + more).max(0) as usize
+        }
+    }
+}
+
+/// A mover's book with guard bytes about it, as it is before any movement.
+fn lent_book(book: &[u8]) -> Vec<u8> {
+    let mut area = filled(book.len(), 0);
+    area[GUARD..GUARD + book.len()].copy_from_slice(book);
+    area
+}
+
+/// Both movers on the movements of one day, one after the other, each with a book of its own: what
+/// both left after each, or where they part.
+pub fn compare_movements(one: Mover, other: Mover, moving: &Moving) -> Result<Vec<Moved>, Parting> {
+    let Moving { input: Input { schedule, book, .. }, steps } = moving;
+    let mut books = [lent_book(book), lent_book(book)];
+    let mut left = Vec::new();
+    for step in steps {
+        let room = movement_room(schedule, step, &books[0][GUARD..GUARD + book.len()]);
+        let after = |mover: Mover, area: &mut Vec<u8>| {
+            let mut report = filled(room, book.len());
+            let [mut own, mut lent] = [&mut area[..], &mut report].map(|area| Lent { area });
+            let answer = mover(schedule, &step.movement, &mut own, &mut lent);
+            Moved { answer, book: area.clone(), report }
+        };
+        let [of_one, of_other] = &mut books;
+        let (first, second) = (after(one, of_one), after(other, of_other));
+        if first != second {
+            return Err(Parting {
+                movement: left.len() + 1,
+                answers: [first.answer, second.answer],
+                bytes: [
+                    first_differing(&first.book, &second.book),
+                    first_differing(&first.report, &second.report),
+                ],
+            });
+        }
+        left.push(first);
+    }
+    Ok(left)
+}
+
+/// The book at the start of a buffer, "its length read from its counts", which it must have.
+pub fn standing(buffer: &[u8]) -> &[u8] {
+    let count = |place| usize::from(u16::from_le_bytes([buffer[place], buffer[place + 1]]));
+    &buffer[..40 + 4 * count(6) + 48 * count(8) + 12 * count(10)]
+}
+
+/// "the charge and the lines after it are those of a report made afresh", as the library has it: of
+/// the book that the buffer starts with after a movement that was accepted.
+pub fn as_afresh(schedule: &[u8], moved: &Moved) -> Result<(), String> {
+    let mut afresh = vec![0xa5; moved.report().len()];
+    let answer = weightrose::packed_report(schedule, standing(moved.book()), &mut afresh);
+    if answer != moved.answer || afresh != moved.report() {
+        return Err(format!("answered {:#x}, and afresh {answer:#x}", moved.answer));
+    }
+    Ok(())
+}
+
+/// The movers.
+pub fn library_moved(
+    schedule: &[u8],
+    movement: &Movement,
+    book: &mut Lent,
+    report: &mut Lent,
+) -> u64 {
+    let (book, report) = (book.buffer(), report.buffer());
+    match movement {
+        Movement::Add(record) => weightrose::packed_add(schedule, record, book, report),
+        Movement::Remove(place) => weightrose::packed_remove(schedule, *place, book, report),
+    }
+}
+
+pub fn second_moved(
+    schedule: &[u8],
+    movement: &Movement,
+    book: &mut Lent,
+    report: &mut Lent,
+) -> u64 {
+    second::moved(schedule, movement, book.buffer(), report.buffer()).packed()
 }
 
 /// The answerers.

@@ -1,5 +1,5 @@
-//! Schedules, books and questions by their fields, right or wrong, and their bytes as the documents
-//! lay them out. Nothing here knows which fields are accepted.
+//! Schedules, books, questions and movements by their fields, right or wrong, and their bytes as the
+//! documents lay them out. Nothing here knows which fields are accepted.
 
 /// Document 01's M, in cents.
 pub const MOST: u64 = 10_000_000_000_000;
@@ -76,6 +76,14 @@ pub struct RawMitigant {
 pub struct RawQuestion {
     pub counterparty: u16,
     pub kind: u8,
+}
+
+/// A movement (C-19): the bytes of an asset record that is added, or the place of the asset that is
+/// taken away.
+#[derive(Clone, Debug, PartialEq, Eq)]
+pub enum Movement {
+    Add(Vec<u8>),
+    Remove(u64),
 }
 
 impl RawSchedule {
@@ -172,8 +180,13 @@ impl RawCounterparty {
 impl RawAsset {
     /// Its record, the same in both versions where it has no mitigants and no desk.
     pub fn bytes(&self) -> Vec<u8> {
+        self.record(1)
+    }
+
+    /// Its record in a book of this version.
+    pub fn record(&self, version: u16) -> Vec<u8> {
         let mut bytes = Vec::new();
-        self.put(1, &mut bytes);
+        self.put(version, &mut bytes);
         bytes
     }
 

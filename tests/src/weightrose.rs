@@ -1,4 +1,4 @@
-//! The library's six exported functions behind safe ones.
+//! The library's eight exported functions behind safe ones.
 
 /// Bytes of a schedule.
 pub const SCHEDULE: usize = 122;
@@ -23,6 +23,8 @@ pub const MOST_COST_RATE: u64 = 1_000;
 pub const QUESTION: usize = 3;
 pub const ANSWER: usize = 8;
 pub const MOST_QUESTIONS: usize = 200;
+/// Bytes of an asset's record.
+pub const ASSET: usize = 48;
 
 mod exported {
     extern "C" {
@@ -59,6 +61,25 @@ mod exported {
             answers: *mut u8,
             answers_len: usize,
         ) -> u64;
+        pub fn weightrose_add(
+            schedule: *const u8,
+            schedule_len: usize,
+            record: *const u8,
+            record_len: usize,
+            book: *mut u8,
+            book_len: usize,
+            report: *mut u8,
+            report_len: usize,
+        ) -> u64;
+        pub fn weightrose_remove(
+            schedule: *const u8,
+            schedule_len: usize,
+            place: u64,
+            book: *mut u8,
+            book_len: usize,
+            report: *mut u8,
+            report_len: usize,
+        ) -> u64;
         pub fn weightrose_published(schedule: *mut u8, schedule_len: usize) -> u64;
         pub fn weightrose_version() -> u64;
     }
@@ -71,10 +92,11 @@ pub enum Answer {
     Refused(Refusal),
 }
 
-/// The refusals by name, 1 to 21 in this order; 10 to 12 with the bad record's place, 17 and 18 with
+/// The refusals by name, 1 to 22 in this order; 10 to 12 with the bad record's place, 17 and 18 with
 /// the asset's. A report is checked for 1 to 13, then 17, then 14 to 16; a conversion for 5 to 13,
 /// then 17, 14, 15, 18 and 16; bills for 1 to 13, then 17, 14, 15, 19 and 16; a list of questions
-/// for 1 to 13, then 17, 14, 15, 20 and 21.
+/// for 1 to 13, then 17, 14, 15, 20 and 21; a movement for 1 to 13, then 17, 14 and 15 of the book as
+/// it stands, then 22, then 5 to 13, 17, 14 and 15 of the resulting book, then 16.
 #[derive(Clone, Copy, Debug, PartialEq, Eq)]
 pub enum Refusal {
     ScheduleLength,
@@ -98,6 +120,7 @@ pub enum Refusal {
     CostRate,
     Questions,
     AnswersShort,
+    Movement,
 }
 
 impl Refusal {
@@ -125,6 +148,7 @@ impl Refusal {
             Refusal::CostRate => 19,
             Refusal::Questions => 20,
             Refusal::AnswersShort => 21,
+            Refusal::Movement => 22,
         }
     }
 
@@ -181,6 +205,7 @@ impl Answer {
             19 => Refusal::CostRate,
             20 => Refusal::Questions,
             21 => Refusal::AnswersShort,
+            22 => Refusal::Movement,
             _ => return None,
         };
         Some(Answer::Refused(refusal)).filter(|answer| answer.packed() == packed)
@@ -249,6 +274,43 @@ pub fn packed_headroom(schedule: &[u8], book: &[u8], questions: &[u8], buffer: &
     }
 }
 
+/// The library's answer to an asset record that is added as it stands. After a movement, the first
+/// buffer starts with the book as it then is, the second with its report.
+pub fn packed_add(schedule: &[u8], record: &[u8], book: &mut [u8], report: &mut [u8]) -> u64 {
+    // SAFETY: each pointer is that of a slice and stands beside the slice's length, and both
+    // buffers, being lent as `&mut`, are apart from each other and from the other two.
+    unsafe {
+        exported::weightrose_add(
+            schedule.as_ptr(),
+            schedule.len(),
+            record.as_ptr(),
+            record.len(),
+            book.as_mut_ptr(),
+            book.len(),
+            report.as_mut_ptr(),
+            report.len(),
+        )
+    }
+}
+
+/// The library's answer to a place that is taken away as it stands. After a movement, both buffers
+/// are as after an addition.
+pub fn packed_remove(schedule: &[u8], place: u64, book: &mut [u8], report: &mut [u8]) -> u64 {
+    // SAFETY: each pointer is that of a slice and stands beside the slice's length, and both
+    // buffers, being lent as `&mut`, are apart from each other and from the schedule.
+    unsafe {
+        exported::weightrose_remove(
+            schedule.as_ptr(),
+            schedule.len(),
+            place,
+            book.as_mut_ptr(),
+            book.len(),
+            report.as_mut_ptr(),
+            report.len(),
+        )
+    }
+}
+
 fn unpacked(packed: u64) -> Answer {
     Answer::unpacked(packed).unwrap_or_else(|| panic!("no answer packs to {packed:#018x}"))
 }
@@ -288,6 +350,19 @@ pub fn headroom(schedule: &[u8], book: &[u8], questions: &[u8], buffer: &mut [u8
 pub fn amount(answers: &[u8], question: usize) -> u64 {
     let start = ANSWER * question;
     u64::from_le_bytes(answers[start..start + ANSWER].try_into().unwrap())
+}
+
+/// Adds an asset record without mitigants at the end of the assets of the book that the first buffer
+/// starts with, writes the report of the new book to the front of the second and answers the
+/// report's length, or refuses and leaves both buffers as they are.
+pub fn add(schedule: &[u8], record: &[u8], book: &mut [u8], report: &mut [u8]) -> Answer {
+    unpacked(packed_add(schedule, record, book, report))
+}
+
+/// Takes the asset at a place, from 1, with its mitigants out of the book that the first buffer
+/// starts with, and otherwise does as `add`.
+pub fn remove(schedule: &[u8], place: u64, book: &mut [u8], report: &mut [u8]) -> Answer {
+    unpacked(packed_remove(schedule, place, book, report))
 }
 
 /// The published schedule, for a slice that may be too short: 122, or 0 and nothing is written.

@@ -3,18 +3,20 @@
 
 use std::thread;
 use weightrose_tests::compare::{
-    compare, compare_bills, compare_headroom, library, library_bills, library_convert,
-    library_headroom, second, second_bills, second_convert, second_headroom,
+    compare, compare_bills, compare_headroom, compare_movements, library, library_bills,
+    library_convert, library_headroom, library_moved, second, second_bills, second_convert,
+    second_headroom, second_moved,
 };
 use weightrose_tests::inputs::{
     at_desks, largest_report_book, largest_specialist_book, lifelike, sixteen_tiers, Askings,
-    Billings, Conversions, Inputs, Parents, Shape, KINDS,
+    Billings, Conversions, Inputs, Movings, Parents, Shape, KINDS,
 };
 use weightrose_tests::random::Random;
-use weightrose_tests::raw::RawQuestion;
+use weightrose_tests::raw::{RawAsset, RawQuestion};
 use weightrose_tests::weightrose::{
-    packed_bills, packed_convert, packed_headroom, packed_report, published, takes_book,
-    takes_schedule, version_number, ANSWER, BILLS, LARGEST_REPORT, MOST_QUESTIONS,
+    packed_add, packed_bills, packed_convert, packed_headroom, packed_remove, packed_report,
+    published, takes_book, takes_schedule, version_number, ANSWER, BILLS, LARGEST_REPORT,
+    MOST_QUESTIONS,
 };
 
 /// The stack that `weightrose.h` names, and some for the thread's own frames.
@@ -28,11 +30,13 @@ fn threads_at_once() {
         |share: usize| inputs.fixed() + share * 2_000..inputs.fixed() + (share + 1) * 2_000;
     let (conversions, billings, askings) =
         (Conversions::new(23), Billings::new(23), Askings::new(23));
+    let movings = Movings::new(23);
     let agrees = |number: usize| {
         compare(&library, &second, &inputs.get(number)).is_ok()
             && compare(&library_convert, &second_convert, &conversions.get(number)).is_ok()
             && compare_bills(&library_bills, &second_bills, &billings.get(number)).is_ok()
             && compare_headroom(&library_headroom, &second_headroom, &askings.get(number)).is_ok()
+            && compare_movements(&library_moved, &second_moved, &movings.get(number)).is_ok()
     };
     thread::scope(|scope| {
         for share in 0..4 {
@@ -67,6 +71,14 @@ fn a_small_stack() {
                 assert_eq!(packed_bills(&published(), book, 1_000, &mut buffer), BILLS as u64);
                 let answers = packed_headroom(&published(), book, &list, &mut buffer);
                 assert_eq!(answers, (ANSWER * MOST_QUESTIONS) as u64);
+            }
+            for book in [&book, &billed] {
+                let (mut lent, last) = (book.clone(), raw.assets.len() as u64);
+                for place in [1, last / 2, last - 2] {
+                    assert_eq!(packed_remove(&published(), place, &mut lent, &mut buffer) >> 32, 0);
+                }
+                let record = RawAsset { mitigants: 0, ..raw.assets[0] }.bytes();
+                assert_eq!(packed_add(&published(), &record, &mut lent, &mut buffer) >> 32, 0);
             }
             packed_report(&published(), &book, &mut buffer)
         };

@@ -232,14 +232,14 @@ fn the_largest_report() {
 
 #[test]
 fn an_answer_packs_and_unpacks() {
-    for number in 0..24u64 {
+    for number in 0..25u64 {
         for low in [0, 1, 500, 65_535, 65_536] {
             let packed = number << 32 | low;
             let answer = Answer::unpacked(packed);
             let known = match number {
                 0 => true,
                 10..=12 | 17 | 18 => low <= 65_535,
-                1..=16 | 19..=21 => low == 0,
+                1..=16 | 19..=22 => low == 0,
                 _ => false,
             };
             assert_eq!(answer.map(Answer::packed), Some(packed).filter(|_| known));

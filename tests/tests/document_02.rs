@@ -1,14 +1,16 @@
 //! Document 02's requests through the library, with their figures and both sides of each of their
 //! boundaries: C-11, specialist reinsurers; C-12, lines straight into the lent report; C-13, desks
 //! and the converter; C-14, the bills; C-15, rates in ten-thousandths; C-16, how much more may be
-//! bought; C-17, ties before rounding; C-18, the half of a reinsurer.
+//! bought; C-17, ties before rounding; C-18, the half of a reinsurer; C-19, movements through the
+//! day.
 
 use weightrose_tests::cases::{
     answers, answers_under, bills, bills_under, not_answered, not_billed, refusal, refused,
-    refused_book, report, report_under, Report,
+    refused_book, report, report_under, Day, Report,
 };
 use weightrose_tests::compare::{
-    bought, in_tier_order, library, library_bills, library_headroom, outcome, room, runs, Subject,
+    bought, in_tier_order, library, library_bills, library_headroom, outcome, room, runs, standing,
+    Subject,
 };
 use weightrose_tests::inputs::{
     largest_report_book, largest_specialist_book, near_ties, sample, shared_halves, sixteen_tiers,
@@ -18,10 +20,10 @@ use weightrose_tests::random::Random;
 use weightrose_tests::raw::*;
 use weightrose_tests::second::{bills_by, halves_of, headroom_by, rebuilt, report_by, tried, Slip};
 use weightrose_tests::weightrose::{
-    amount, bill, convert, headroom, packed_bills, packed_headroom, packed_report, published,
-    Answer, Refusal, ANSWER, BILLS, HEADER, LARGEST_BOOK, LARGEST_REPORT, LINE, MOST_COST_RATE,
-    MOST_QUESTIONS, MOST_RATE_PER_MILLE, MOST_RATE_TEN_THOUSANDTHS, QUESTION, SCHEDULE,
-    SCHEDULE_PER_MILLE, SCHEDULE_TEN_THOUSANDTHS,
+    amount, bill, convert, headroom, packed_add, packed_bills, packed_headroom, packed_remove,
+    packed_report, published, Answer, Refusal, ANSWER, ASSET, BILLS, HEADER, LARGEST_BOOK,
+    LARGEST_REPORT, LINE, MOST_COST_RATE, MOST_QUESTIONS, MOST_RATE_PER_MILLE,
+    MOST_RATE_TEN_THOUSANDTHS, QUESTION, SCHEDULE, SCHEDULE_PER_MILLE, SCHEDULE_TEN_THOUSANDTHS,
 };
 
 const TOTAL: u64 = 10_000_000_000;
@@ -2584,4 +2586,625 @@ fn c18_the_largest_halves() {
     let most = RawAsset { value: 0, ..treaty(0, REINSURER, MOST) };
     assert_eq!(refused_book(&of_many(most)), Refusal::StressedAssets);
     assert_eq!(refused_book(&of_many(RawAsset { flags: 1, ..most })), Refusal::StressedAssets);
+}
+
+fn comes(book: &RawBook, asset: RawAsset) -> Movement {
+    Movement::Add(asset.record(book.version))
+}
+
+/// The book with an asset more, behind the last one and without mitigants.
+fn with_one_more(book: &RawBook, asset: RawAsset) -> RawBook {
+    let mut book = book.clone();
+    book.assets.push(asset);
+    book
+}
+
+/// The book without the asset at a place, from 1, and without its mitigants.
+fn with_one_less(book: &RawBook, place: u64) -> RawBook {
+    let mut less = RawBook { assets: Vec::new(), mitigants: Vec::new(), ..book.clone() };
+    let mut mitigants = book.mitigants.iter().copied();
+    for (number, &asset) in (1..).zip(&book.assets) {
+        let own: Vec<RawMitigant> = mitigants.by_ref().take(asset.mitigants.into()).collect();
+        if number != place {
+            less.asset(asset, &own);
+        }
+    }
+    less
+}
+
+/// A movement after which the buffer starts with the bytes of this book, those past its end being as
+/// they were, and the report is that of this book made afresh.
+fn moves(day: &mut Day, movement: &Movement, wanted: &RawBook) -> Report {
+    let before = day.buffer.clone();
+    let made = day.report(movement);
+    let bytes = wanted.bytes();
+    let (book, rest) = day.buffer.split_at(bytes.len());
+    assert!(book == bytes, "another book after {movement:?}");
+    assert!(rest == &before[bytes.len()..], "bytes past the end changed by {movement:?}");
+    assert!(made.bytes == report_under(&day.schedule, wanted).bytes, "the report, {movement:?}");
+    made
+}
+
+/// The name of T2, its first asset, and the other one that comes and goes.
+#[test]
+fn c19_one_more_and_one_less() {
+    let mut book = RawBook::empty(TOTAL, BASE, 0);
+    book.counterparty(RawCounterparty::default());
+    let mut day = Day::of(&book, 100);
+    let (other, traded) = (held(0, 11, 1, 300_000_000), held(0, 6, 1, 300_000_000));
+    let one = with_one_more(&book, other);
+    let printed = moves(&mut day, &comes(&book, other), &one).printed();
+    assert_eq!(printed, "1 0 300000000 250000000 250000000 50000000\ncharge 50000000\n");
+    let two = with_one_more(&one, traded);
+    let printed = moves(&mut day, &comes(&book, traded), &two).printed();
+    assert_eq!(
+        printed,
+        "1 0 300000000 250000000 250000000 50000000\n\
+         1 2 300000000 500000000 250000000 50000000\ncharge 100000000\n"
+    );
+    let last = with_one_less(&two, 1);
+    let printed = moves(&mut day, &Movement::Remove(1), &last).printed();
+    assert_eq!(printed, "1 2 300000000 500000000 500000000 0\ncharge 0\n");
+    let made = moves(&mut day, &Movement::Remove(1), &book);
+    assert_eq!((made.printed(), made.bytes.len()), ("charge 0\n".to_string(), HEADER));
+    assert_eq!(day.refusal(&Movement::Remove(1), HEADER), Refusal::Movement);
+}
+
+/// One that comes and goes again leaves the book as it was; what it moved past the end stays there.
+#[test]
+fn c19_there_and_back() {
+    for version in [1, 2] {
+        let book = RawBook { version, ..sample() };
+        let (old, room) = (book.bytes(), 130);
+        let mut day = Day::of(&book, room);
+        let start = day.clone();
+        let asset = held(7 * u8::from(version == 2), 8, 2, 99);
+        let more = with_one_more(&book, asset);
+        moves(&mut day, &comes(&book, asset), &more);
+        moves(&mut day, &Movement::Remove(5), &book);
+        let (end, longer) = (old.len(), more.bytes());
+        assert_eq!(day.buffer[..end], old);
+        assert_eq!(day.buffer[end..end + ASSET], longer[end..]);
+        assert_eq!(day.buffer[end + ASSET..], start.buffer[end + ASSET..]);
+        // The same record again: every byte is as it was with it.
+        moves(&mut day, &comes(&book, asset), &more);
+        assert_eq!(day.buffer[..longer.len()], longer);
+    }
+}
+
+/// "takes the asset at a place away with its mitigants and closes up": the first, those between and
+/// the last, with none, one, two and more than a byte counts.
+#[test]
+fn c19_with_its_mitigants() {
+    let wide = with_mitigants(300);
+    let narrow = RawBook { version: 2, ..with_mitigants(255) };
+    let converted = RawBook { version: 2, ..sample() };
+    for book in [sample(), converted, wide, narrow, sixteen_tiers(2, 100, 20_000)] {
+        for (place, room) in (1..=book.assets.len() as u64).zip([0, 1, 48, 99].into_iter().cycle())
+        {
+            let mut day = Day::of(&book, room);
+            moves(&mut day, &Movement::Remove(place), &with_one_less(&book, place));
+        }
+        // One after the other, until none is there: from the first, from the last, from between.
+        for order in 0..3 {
+            let (mut book, mut day) = (book.clone(), Day::of(&book, 7));
+            while !book.assets.is_empty() {
+                let left = book.assets.len() as u64;
+                let place = [1, left, left / 2 + 1][order];
+                book = with_one_less(&book, place);
+                moves(&mut day, &Movement::Remove(place), &book);
+            }
+            assert!(book.mitigants.is_empty());
+            assert_eq!(day.refusal(&Movement::Remove(1), LARGEST_REPORT), Refusal::Movement);
+        }
+    }
+}
+
+/// "22 when the place taken away isn't there": every number gets an answer.
+#[test]
+fn c19_places() {
+    let mut empty = sample();
+    (empty.assets, empty.mitigants) = (Vec::new(), Vec::new());
+    for book in [sample(), empty] {
+        let last = book.assets.len() as u64;
+        let mut day = Day::of(&book, 50);
+        let beside = [0, last + 1, last + 2, 255, 256, 257, 900, 901, 65_535];
+        let longer = [8, 16, 31, 32, 40, 48, 63].map(|bit| 1 << bit);
+        let longer = longer.into_iter().flat_map(|bits| [bits, bits + 1, bits + last]);
+        for place in beside.into_iter().chain(longer).chain([u64::MAX, u64::MAX - 1]) {
+            let movement = Movement::Remove(place);
+            assert_eq!(day.refusal(&movement, LARGEST_REPORT), Refusal::Movement, "{place}");
+        }
+        for place in 1..=last {
+            let mut day = day.clone();
+            moves(&mut day, &Movement::Remove(place), &with_one_less(&book, place));
+        }
+    }
+}
+
+/// "22 when .. the record isn't 48 bytes".
+#[test]
+fn c19_bytes_of_a_record() {
+    let mut full = sample();
+    full.assets.resize(900, held(0, 11, 1, 5));
+    for book in [sample(), RawBook { version: 2, ..sample() }, RawBook::empty(5, 0, 0), full] {
+        let mut day = Day::of(&book, 96);
+        let record = held(0, 7, 2, 77).bytes();
+        for length in (0..=100).chain([144, 43_200]).filter(|&length| length != ASSET) {
+            let bytes: Vec<u8> = record.iter().copied().cycle().take(length).collect();
+            let movement = Movement::Add(bytes);
+            assert_eq!(day.refusal(&movement, LARGEST_REPORT), Refusal::Movement, "{length}");
+        }
+    }
+    let mut day = Day::of(&sample(), 96);
+    let asset = held(0, 7, 2, 77);
+    moves(&mut day, &comes(&sample(), asset), &with_one_more(&sample(), asset));
+}
+
+/// "a 48-byte asset record without mitigants": one that counts some is 13 of the resulting book, and
+/// in version 2 byte 7 is no count but the desk.
+#[test]
+fn c19_a_record_that_counts_mitigants() {
+    for version in [1, 2] {
+        for book in [sample(), of_one_name(&[])] {
+            let book = RawBook { version, ..book };
+            let record = held(0, 11, 1, 700).record(version);
+            for (six, seven) in [(1, 0), (2, 0), (255, 0), (1, 1), (0, 1), (0, 2), (0, 255)] {
+                let mut record = record.clone();
+                record[6..8].copy_from_slice(&[six, seven]);
+                let (mut day, movement) = (Day::of(&book, ASSET), Movement::Add(record));
+                if version == 2 && six == 0 {
+                    let more = with_one_more(&book, held(seven, 11, 1, 700));
+                    moves(&mut day, &movement, &more);
+                } else {
+                    let refusal = day.refusal(&movement, LARGEST_REPORT);
+                    assert_eq!(refusal, Refusal::MitigantCounts, "{version}, {six}, {seven}");
+                }
+            }
+        }
+    }
+    // What comes to a desk is billed to it.
+    let book = of_one_name(&[(3, 200_000_000)]);
+    let mut day = Day::of(&book, ASSET);
+    day.report(&comes(&book, held(9, 11, 1, 100_000_000)));
+    let mut billed = [0; BILLS];
+    assert_eq!(packed_bills(&published(), &day.buffer, 1_000, &mut billed), BILLS as u64);
+    assert_eq!([3, 9].map(|desk| bill(&billed, desk)), [0, 5_000_000]);
+}
+
+/// 899 assets, 900, and no more: "N ≤ 900".
+#[test]
+fn c19_900_assets() {
+    for version in [1, 2] {
+        let mut book = RawBook { version, ..sample() };
+        book.assets.resize(899, held(0, 11, 1, 5));
+        let mut day = Day::of(&book, 3 * ASSET);
+        let asset = held(0, 6, 4, 88);
+        let full = with_one_more(&book, asset);
+        moves(&mut day, &comes(&book, asset), &full);
+        let bad = [
+            asset,
+            RawAsset { kind: 12, ..asset },
+            RawAsset { mitigants: 1, ..asset },
+            RawAsset { kind: 9, entry: 3, value: MOST, ..asset },
+        ];
+        for (asset, room) in bad.into_iter().flat_map(|bad| [(bad, LARGEST_REPORT), (bad, 0)]) {
+            assert_eq!(day.refusal(&comes(&book, asset), room), Refusal::BookCounts);
+        }
+        let mut exact = Day::of(&full, 0);
+        assert_eq!(exact.refusal(&comes(&book, asset), 0), Refusal::BookCounts);
+        assert_eq!(day.refusal(&Movement::Add(vec![12; 47]), 0), Refusal::Movement);
+        assert_eq!(day.refusal(&Movement::Remove(901), 0), Refusal::Movement);
+        let less = with_one_less(&full, 900);
+        moves(&mut day, &Movement::Remove(900), &less);
+        moves(&mut day, &comes(&book, asset), &full);
+        moves(&mut day, &Movement::Remove(1), &with_one_less(&full, 1));
+    }
+}
+
+/// "16 where either buffer is short": the book's for the resulting book, the report's for its report,
+/// or both. A book that gets shorter always has room.
+#[test]
+fn c19_the_buffers() {
+    let book = sample();
+    let asset = held(0, 11, 4, 700);
+    let (more, less) = (with_one_more(&book, asset), with_one_less(&book, 2));
+    let [of_more, of_less] = [&more, &less].map(|book| report(book).bytes.len());
+    for room in [0, 1, 12, 46, 47] {
+        let mut day = Day::of(&book, room);
+        for report in [0, 71, of_more - 1, of_more, LARGEST_REPORT] {
+            assert_eq!(day.refusal(&comes(&book, asset), report), Refusal::BufferShort);
+        }
+        for report in [0, 71, 72, of_less - 1] {
+            assert_eq!(day.refusal(&Movement::Remove(2), report), Refusal::BufferShort);
+        }
+        moves(&mut day, &Movement::Remove(2), &less);
+    }
+    for room in [48, 49, 100] {
+        let mut day = Day::of(&book, room);
+        for report in [0, 71, 72, of_more - 1] {
+            assert_eq!(day.refusal(&comes(&book, asset), report), Refusal::BufferShort);
+        }
+        moves(&mut day, &comes(&book, asset), &more);
+    }
+    // Reports of their length, at any place and among any bytes.
+    let bytes = report(&more).bytes;
+    writes_alone(&bytes, |lent| {
+        let mut buffer = Day::of(&book, 48).buffer;
+        packed_add(&published(), &asset.bytes(), &mut buffer, lent)
+    });
+    let bytes = report(&less).bytes;
+    writes_alone(&bytes, |lent| packed_remove(&published(), 2, &mut book.bytes(), lent));
+}
+
+/// What the resulting book is refused by comes before 16, whichever buffer is short.
+#[test]
+fn c19_the_result_before_16() {
+    let book = RawBook { excluded: 0, ..sample() };
+    let good = held(0, 9, 3, 10);
+    let cases = [
+        (RawAsset { kind: 12, ..good }, Refusal::Asset(5)),
+        (RawAsset { counterparty: 5, ..good }, Refusal::Asset(5)),
+        (RawAsset { offsets: 11, ..good }, Refusal::Asset(5)),
+        (RawAsset { deductions: MOST + 1, ..good }, Refusal::Asset(5)),
+        (RawAsset { mitigants: 1, ..good }, Refusal::MitigantCounts),
+        (RawAsset { entry: 3, ..good }, Refusal::SpecialistEntry(5)),
+        (RawAsset { value: TOTAL, ..good }, Refusal::ReinsuranceValues),
+        (RawAsset { combination_stress: MOST, ..good }, Refusal::StressedAssets),
+        // Each before those below it.
+        (RawAsset { kind: 12, mitigants: 1, entry: 3, ..good }, Refusal::Asset(5)),
+        (RawAsset { mitigants: 1, entry: 3, value: TOTAL, ..good }, Refusal::MitigantCounts),
+        (RawAsset { entry: 3, value: TOTAL, ..good }, Refusal::SpecialistEntry(5)),
+        (RawAsset { value: TOTAL, combination_stress: MOST, ..good }, Refusal::ReinsuranceValues),
+    ];
+    for (asset, wanted) in cases {
+        for (room, report) in [(48, LARGEST_REPORT), (48, 0), (47, LARGEST_REPORT), (0, 71)] {
+            let mut day = Day::of(&book, room);
+            assert_eq!(day.refusal(&comes(&book, asset), report), wanted, "{asset:?}");
+        }
+    }
+}
+
+/// 14 and 15 by a treaty that comes, on both sides of their boundaries.
+#[test]
+fn c19_one_more_refused_14_and_15() {
+    let mut book = RawBook::empty(100, 0, 30);
+    book.counterparty(graded());
+    book.asset(RawAsset { entry: 0, ..retrocession(1, 0, 40) }, &[]);
+    let treaty = |value, stress| RawAsset { combination_stress: stress, ..held(0, 9, 1, value) };
+    // 40 and 60 are the total, 40 and 61 more.
+    let mut day = Day::of(&book, ASSET);
+    assert_eq!(day.refusal(&comes(&book, treaty(61, 61)), 0), Refusal::ReinsuranceValues);
+    moves(&mut day, &comes(&book, treaty(60, 60)), &with_one_more(&book, treaty(60, 60)));
+    // VAF′ is 70 or less; one without stress takes its value of that, which leaves 0, or less.
+    let mut low = Day::of(&RawBook { excluded: 41, ..book.clone() }, ASSET);
+    assert_eq!(low.refusal(&comes(&book, treaty(60, 0)), 0), Refusal::StressedAssets);
+    let lowest = RawBook { excluded: 40, ..book.clone() };
+    let made = moves(
+        &mut Day::of(&lowest, ASSET),
+        &comes(&book, treaty(60, 0)),
+        &with_one_more(&lowest, treaty(60, 0)),
+    );
+    assert_eq!(made.vaf_prime(), 0);
+    // To M by one's stress, and a cent past it.
+    let (mut day, stress) = (Day::of(&book, ASSET), MOST - 70);
+    assert_eq!(day.refusal(&comes(&book, treaty(0, stress + 1)), 0), Refusal::StressedAssets);
+    let made =
+        moves(&mut day, &comes(&book, treaty(0, stress)), &with_one_more(&book, treaty(0, stress)));
+    assert_eq!(made.vaf_prime(), MOST);
+}
+
+/// 15 by a treaty that goes: without its stress less is left than is excluded, or without its value
+/// more than M.
+#[test]
+fn c19_one_less_refused_15() {
+    for (excluded, refused) in [(29, false), (30, false), (31, true), (60, true)] {
+        let mut book = RawBook::empty(10, 0, excluded);
+        book.counterparty(graded());
+        book.asset(RawAsset { combination_stress: 30, ..held(0, 9, 1, 0) }, &[]);
+        book.asset(RawAsset { combination_stress: 20, ..held(0, 9, 1, 0) }, &[]);
+        let mut day = Day::of(&book, 0);
+        if refused {
+            assert_eq!(day.refusal(&Movement::Remove(1), 0), Refusal::StressedAssets);
+            assert_eq!(day.refusal(&Movement::Remove(1), LARGEST_REPORT), Refusal::StressedAssets);
+        } else {
+            let made = moves(&mut day, &Movement::Remove(1), &with_one_less(&book, 1));
+            assert_eq!(made.vaf_prime(), 30 - excluded);
+        }
+        // The one that stays is in its place.
+        if excluded <= 40 {
+            let less = with_one_less(&book, 2);
+            moves(&mut Day::of(&book, 0), &Movement::Remove(2), &less);
+        }
+    }
+    for (stress, refused) in [(10, false), (11, true)] {
+        let mut book = RawBook::empty(MOST, 0, 10);
+        book.counterparty(graded());
+        book.asset(held(0, 9, 1, 20), &[]);
+        book.asset(RawAsset { combination_stress: stress, ..held(0, 9, 1, 0) }, &[]);
+        let mut day = Day::of(&book, 0);
+        if refused {
+            assert_eq!(day.refusal(&Movement::Remove(1), 0), Refusal::StressedAssets);
+        } else {
+            let made = moves(&mut day, &Movement::Remove(1), &with_one_less(&book, 1));
+            assert_eq!(made.vaf_prime(), MOST);
+        }
+    }
+}
+
+/// The refusal of a movement of the book that a buffer of these bytes starts with.
+fn not_moved(schedule: &[u8], buffer: &[u8], movement: &Movement, room: usize) -> Refusal {
+    let mut day = Day { schedule: schedule.to_vec(), buffer: buffer.to_vec() };
+    day.refusal(movement, room)
+}
+
+/// 16, then what the resulting book is refused by, 22, then 15, 14, 17, 13 and 12 to 1 of the book as
+/// it stands: each fault is put before those that are there already.
+#[test]
+fn c19_refusals_in_their_order() {
+    for version in [1, 2] {
+        let book = refusable(version);
+        let bytes = book.bytes();
+        let good = held(0, 11, 1, 1);
+        assert_eq!(not_moved(&published(), &bytes, &comes(&book, good), 0), Refusal::BufferShort);
+        assert_eq!(not_moved(&published(), &bytes, &Movement::Remove(1), 71), Refusal::BufferShort);
+        let bad = comes(&book, RawAsset { kind: 12, ..good });
+        assert_eq!(not_moved(&published(), &bytes, &bad, 0), Refusal::Asset(2));
+        let Movement::Add(record) = bad else { unreachable!() };
+        for movement in [
+            Movement::Add(record[..47].to_vec()),
+            Movement::Add([&record[..], &[0]].concat()),
+            Movement::Add(Vec::new()),
+            Movement::Remove(0),
+            Movement::Remove(2),
+            Movement::Remove(u64::MAX),
+        ] {
+            assert_eq!(not_moved(&published(), &bytes, &movement, 0), Refusal::Movement);
+            refused_15_to_1(book.clone(), 0, |schedule, book, room| {
+                // Bytes behind the book are never looked at, where there is a whole header.
+                let behind = if book.len() < 40 { &[][..] } else { &[0xff; 60] };
+                let longer = [book, behind].concat();
+                let found = not_moved(schedule, &longer, &movement, room);
+                assert_eq!(not_moved(schedule, book, &movement, room), found);
+                found
+            });
+            assert_eq!(not_moved(&[], &[], &movement, 0), Refusal::ScheduleLength);
+        }
+    }
+}
+
+/// A movement that would make the book good is refused by the book as it stands all the same.
+#[test]
+fn c19_the_book_as_it_stands_first() {
+    let mut book = refusable(1);
+    book.asset(held(0, 9, 1, 1), &[]);
+    let away = |place| Movement::Remove(place);
+    assert_eq!(not_moved(&published(), &book.bytes(), &away(2), 500), Refusal::ReinsuranceValues);
+    let mut book = RawBook { specialist: 0, ..refusable(1) };
+    assert_eq!(not_moved(&published(), &book.bytes(), &away(1), 500), Refusal::SpecialistEntry(1));
+    (book.specialist, book.assets[0].months, book.assets[0].entry) = (1, 3, 0);
+    assert_eq!(not_moved(&published(), &book.bytes(), &away(1), 500), Refusal::Asset(1));
+    let mut book = refusable(1);
+    book.excluded = 6;
+    let treaty = RawAsset { combination_stress: 9, ..held(0, 9, 1, 0) };
+    let buffer = Day::of(&book, 48).buffer;
+    assert_eq!(
+        not_moved(&published(), &buffer, &comes(&book, treaty), 500),
+        Refusal::StressedAssets
+    );
+}
+
+/// "its length read from its counts (8 if the buffer is shorter)": behind 6 and 7, and behind 5 where
+/// there is no header. A longer buffer's rest is any bytes.
+#[test]
+fn c19_the_length_is_in_the_counts() {
+    let book = sample();
+    let bytes = book.bytes();
+    for movement in [Movement::Remove(1), Movement::Remove(0), comes(&book, held(0, 7, 2, 9))] {
+        for length in 0..bytes.len() {
+            let wanted = if length < 40 { Refusal::BookLength } else { Refusal::BookCounts };
+            let short = &bytes[..length];
+            assert_eq!(not_moved(&published(), short, &movement, LARGEST_REPORT), wanted);
+            for (place, byte, first) in [(0, b'B', Refusal::BookMark), (4, 3, Refusal::BookVersion)]
+            {
+                let mut short = short.to_vec();
+                if let Some(changed) = short.get_mut(place) {
+                    *changed = byte;
+                }
+                let wanted = if length < 40 { Refusal::BookLength } else { first };
+                assert_eq!(not_moved(&published(), &short, &movement, 0), wanted);
+            }
+        }
+    }
+    // Counts that say one record more, or more than there may be, whatever follows.
+    for (counts, refused) in [
+        ([4, 4, 6], true),
+        ([5, 4, 5], true),
+        ([4, 5, 5], true),
+        ([501, 0, 0], true),
+        ([0, 901, 0], true),
+        ([0, 0, 1_501], true),
+        ([65_535; 3], true),
+        ([4, 4, 5], false),
+    ] {
+        let counted = RawBook { counts: Some(counts), ..book.clone() };
+        let mut day = Day::of(&counted, 0);
+        if refused {
+            assert_eq!(day.refusal(&Movement::Remove(1), 0), Refusal::BookCounts, "{counts:?}");
+        } else {
+            moves(&mut day, &Movement::Remove(1), &with_one_less(&book, 1));
+        }
+        day.buffer.resize(100_000, 0xff);
+        if counts.iter().any(|&count| count > 500) {
+            assert_eq!(day.refusal(&Movement::Remove(1), 0), Refusal::BookCounts, "{counts:?}");
+        }
+    }
+}
+
+/// C-11: a retrocession comes to a specialist fund, and to no other.
+#[test]
+fn c19_specialist_funds() {
+    let mut book = specialist(TOTAL, BASE);
+    book.counterparty(RawCounterparty::default());
+    let mut day = Day::of(&book, 4 * ASSET);
+    for (months, tier) in [(0, 13), (3, 14), (12, 15), (24, 1)] {
+        let asset = retrocession(1, months, 1_000);
+        book = with_one_more(&book, asset);
+        let made = moves(&mut day, &comes(&book, asset), &book);
+        assert!(tiers(&made).contains(&tier));
+    }
+    let plain = RawBook { specialist: 0, assets: Vec::new(), ..book.clone() };
+    let mut day = Day::of(&plain, 4 * ASSET);
+    let asset = retrocession(1, 0, 1_000);
+    let refusal = day.refusal(&comes(&plain, asset), LARGEST_REPORT);
+    assert_eq!(refusal, Refusal::SpecialistEntry(1));
+    let first = held(0, 7, 1, 5);
+    moves(&mut day, &comes(&plain, first), &with_one_more(&plain, first));
+    assert_eq!(day.refusal(&comes(&plain, asset), 0), Refusal::SpecialistEntry(2));
+}
+
+/// C-18: a treaty that comes lengthens the half on which an earlier one of its reinsurer draws, and
+/// one that goes leaves the others what it drew.
+#[test]
+fn c19_halves() {
+    let first = with_letters(&[(101, 101)]);
+    let mut day = Day::of(&first, 200);
+    let both = with_letters(&[(101, 101), (99, 0)]);
+    let made = moves(&mut day, &comes(&first, both.assets[1]), &both);
+    assert_eq!(covered_and_left(&made, 2), [[100, 1], [0, 99]]);
+    let made = moves(&mut day, &Movement::Remove(2), &first);
+    assert_eq!(covered_and_left(&made, 1), [[50, 51]]);
+    // Another reinsurer's treaty, and a linked one, change nothing of it.
+    for asset in [treaty(1, FIRST_BANK, 99), RawAsset { flags: 1, ..both.assets[1] }] {
+        let more = with_one_more(&first, asset);
+        let made = moves(&mut day, &comes(&first, asset), &more);
+        assert_eq!(covered_and_left(&made, 1), [[50, 51]]);
+        moves(&mut day, &Movement::Remove(2), &first);
+    }
+    // The first drew all of the half: without it, and its letters, the second draws on its own.
+    let book = with_letters(&[(101, 101), (101, 101), (10, 0)]);
+    let mut day = Day::of(&book, 0);
+    let made = moves(&mut day, &Movement::Remove(1), &with_one_less(&book, 1));
+    assert_eq!(exposure(&made, FIRST_BANK, 11), 0);
+    assert_eq!(exposure(&made, FIRST_BANK + 1, 11), 55);
+    assert_eq!(exposure(&made, REINSURER, APART[1].2), 46);
+}
+
+/// "Header amounts .. stay", and what is taken of them does not: netted liabilities that come lessen
+/// VAF and with it every group's limit.
+#[test]
+fn c19_a_report_made_afresh() {
+    let mut book = RawBook::empty(1_000_000, 0, 0);
+    book.counterparties = vec![RawCounterparty::default(), graded(), bank(), bank()];
+    book.asset(held(0, 11, 1, 30_000), &[]);
+    let mut day = Day::of(&book, 500);
+    let limit = |made: &Report| made.lines().iter().find(|line| line.tier == 0).unwrap().amounts[1];
+    let netted =
+        RawAsset { offsets: 400_000, combination_stress: 500_000, ..held(0, 9, 2, 500_000) };
+    let more = with_one_more(&book, netted);
+    let made = moves(&mut day, &comes(&book, netted), &more);
+    assert_eq!((made.vaf(), limit(&made), made.lines()[0].amounts[3]), (600_000, 15_000, 15_000));
+    let made = moves(&mut day, &Movement::Remove(2), &book);
+    assert_eq!((made.vaf(), limit(&made), made.charge()), (1_000_000, 25_000, 5_000));
+    // Bills of one bank, as they come, lessen the other's limit for deposits.
+    let schedule = RawSchedule {
+        rows: std::array::from_fn(|row| RawRow {
+            rates: if row == 1 { [500, 0, 0] } else { [250, 0, 0] },
+            fixed: 0,
+        }),
+        ..RawSchedule::published()
+    };
+    day.schedule = schedule.bytes();
+    let deposit = with_one_more(&book, held(0, 4, 3, 480_000));
+    let made = moves(&mut day, &comes(&book, deposit.assets[1]), &deposit);
+    assert_eq!(made.charge(), 0);
+    let bills = with_one_more(&deposit, held(0, 3, 4, 30_000));
+    let made = moves(&mut day, &comes(&book, bills.assets[2]), &bills);
+    assert_eq!(made.charge(), 10_000);
+}
+
+/// Any movement of a day: mostly assets of each kind, and places that are there.
+fn any_movement(random: &mut Random, book: &RawBook) -> (Movement, Option<RawBook>) {
+    let (assets, parties) = (book.assets.len() as u64, book.counterparties.len() as u64);
+    if random.chance(45) {
+        let place = random.below(assets + 2);
+        let less = (1..=assets).contains(&place).then(|| with_one_less(book, place));
+        return (Movement::Remove(place), less);
+    }
+    let mut asset = held(
+        if book.version == 2 { random.below(256) as u8 } else { 0 },
+        random.between(1, 12) as u8,
+        random.between(1, parties) as u16,
+        random.below(2_000),
+    );
+    if asset.kind == 9 {
+        asset.entry = random.below(4) as u8;
+        asset.months = if asset.entry > 0 { random.below(26) as u8 } else { 0 };
+        (asset.combination_stress, asset.offsets) = (random.below(2_000), asset.value / 3);
+    }
+    (comes(book, asset), Some(with_one_more(book, asset)))
+}
+
+/// "For every list of movements under one schedule, refused ones left out": after each the report is
+/// that of a book made afresh from the assets then present, and it is refused where that book is.
+#[test]
+fn c19_days() {
+    let (mut accepted, mut refused) = (0, 0);
+    for number in 0..60 {
+        let random = &mut Random::new(19, number);
+        let (schedule, mut book) = small_fund(random);
+        book.version = 1 + (number % 2) as u16;
+        book.total = random.pick(&[5_000, 20_000, 1_000_000]);
+        let mut day = Day::of(&book, random.pick(&[100, 500, 5_000]));
+        day.schedule = if number % 3 == 0 { schedule.tenfold() } else { schedule }.bytes();
+        let mut report = vec![0; LARGEST_REPORT];
+        if packed_report(&day.schedule, &book.bytes(), &mut report) >> 32 > 0 {
+            continue;
+        }
+        for _ in 0..60 {
+            let (movement, after) = any_movement(random, &book);
+            let afresh = |book: &RawBook| packed_report(&day.schedule, &book.bytes(), &mut report);
+            let fits = |book: &RawBook| book.bytes().len() <= day.buffer.len();
+            let wanted = match after.as_ref().map(afresh) {
+                None => Some(Refusal::Movement),
+                Some(packed) => match Answer::unpacked(packed).unwrap() {
+                    Answer::Refused(refusal) => Some(refusal),
+                    Answer::Written(_) if !after.as_ref().is_some_and(fits) => {
+                        Some(Refusal::BufferShort)
+                    }
+                    Answer::Written(_) => None,
+                },
+            };
+            match wanted {
+                Some(wanted) => {
+                    assert_eq!(day.refusal(&movement, LARGEST_REPORT), wanted, "{movement:?}");
+                    refused += 1;
+                }
+                None => {
+                    book = after.unwrap();
+                    moves(&mut day, &movement, &book);
+                    assert_eq!(standing(&day.buffer), book.bytes());
+                    accepted += 1;
+                }
+            }
+        }
+    }
+    assert!(accepted > 1_000 && refused > 500, "{accepted} accepted, {refused} refused");
+}
+
+/// The largest books, whose reports are the largest too.
+#[test]
+fn c19_the_largest_books() {
+    for (number, book) in [largest_report_book(), largest_specialist_book()].iter().enumerate() {
+        let book = RawBook { version: 1 + number as u16, ..book.clone() };
+        assert_eq!(book.bytes().len(), LARGEST_BOOK);
+        let mut day = Day::of(&book, 0);
+        let less = with_one_less(&book, 1);
+        moves(&mut day, &Movement::Remove(1), &less);
+        let asset = held(0, 11, 500, 1_000);
+        let more = with_one_more(&less, asset);
+        moves(&mut day, &comes(&book, asset), &more);
+        moves(&mut day, &Movement::Remove(900), &less);
+        moves(&mut day, &Movement::Remove(450), &with_one_less(&less, 450));
+    }
 }

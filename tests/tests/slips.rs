@@ -2,15 +2,16 @@
 //! a library, is caught by it.
 
 use weightrose_tests::compare::{
-    adds_up, compare, compare_bills, compare_headroom, library, library_bills, library_convert,
-    library_headroom, may_be_bought, outcome, room, second, second_bills, second_convert,
-    second_headroom, Answerer, Biller, Lent, Subject, GUARD,
+    adds_up, as_afresh, compare, compare_bills, compare_headroom, compare_movements, library,
+    library_bills, library_convert, library_headroom, library_moved, may_be_bought, outcome, room,
+    second, second_bills, second_convert, second_headroom, second_moved, standing, Answerer,
+    Biller, Lent, Mover, Subject, GUARD,
 };
 use weightrose_tests::inputs::{
-    sample, Asking, Askings, Billings, Conversions, Input, Inputs, Room,
+    sample, Asking, Askings, Billings, Conversions, Input, Inputs, Movings, Room,
 };
-use weightrose_tests::raw::RawSchedule;
-use weightrose_tests::second::{bills_by, convert_by, headroom_by, report_by, Slip};
+use weightrose_tests::raw::{Movement, RawSchedule};
+use weightrose_tests::second::{bills_by, convert_by, headroom_by, moved_by, report_by, Slip};
 use weightrose_tests::weightrose::{
     amount, bill, report, Answer, Refusal, ANSWER, BILLS, HEADER, LARGEST_REPORT, LINE, QUESTION,
 };
@@ -20,6 +21,7 @@ const SEEDED: usize = 20_000;
 const SEEDED_CONVERSIONS: usize = 10_000;
 const SEEDED_BILLINGS: usize = 20_000;
 const SEEDED_ASKINGS: usize = 20_000;
+const SEEDED_MOVINGS: usize = 20_000;
 
 /// Changes the byte at a place, where there is one.
 fn change(bytes: &mut [u8], place: usize) {
@@ -379,6 +381,157 @@ fn answers_that_do_not_hold_are_caught() {
     }
 }
 
+/// The first seeded input of movements on which a mover parts from the library.
+fn caught_moving(inputs: &Movings, mover: Mover) -> Option<usize> {
+    let mut seeded = inputs.fixed()..inputs.fixed() + SEEDED_MOVINGS;
+    seeded.find(|&number| compare_movements(&library_moved, mover, &inputs.get(number)).is_err())
+}
+
+/// C-19: those of movements, and those of the report, which a movement writes too.
+#[test]
+fn each_slip_of_movements_is_caught() {
+    let inputs = Movings::new(SEED);
+    let passes = |slip: &Slip| {
+        let wrong = |schedule: &[u8], movement: &Movement, book: &mut Lent, report: &mut Lent| {
+            moved_by(slip, schedule, movement, book.buffer(), report.buffer()).packed()
+        };
+        caught_moving(&inputs, &wrong).is_none()
+    };
+    // A movement's buffers have slips of their own.
+    let of_report = |slip: &Slip| slip.of_report() && *slip != Slip::ExactBufferRefused;
+    let reaches = |slip: &Slip| slip.of_movements() || of_report(slip);
+    let missed: Vec<Slip> = Slip::ALL.iter().copied().filter(reaches).filter(passes).collect();
+    assert!(missed.is_empty(), "not caught: {missed:?}");
+}
+
+/// C-19: bytes that a movement could leave or change in either buffer.
+#[test]
+fn movements_out_of_place_are_caught() {
+    /// The book's buffer and the report's, before and after, and the report's length.
+    type Spoil = fn([&[u8]; 2], [&mut [u8]; 2], usize);
+    let slips: [(&str, Spoil); 14] = [
+        ("a byte past the new end", |_, [book, _], _| {
+            let end = standing(book).len();
+            change(book, end);
+        }),
+        ("the last byte of the buffer", |_, [book, _], _| change(book, book.len() - 1)),
+        ("the last byte of the book left as it was", |[before, _], [book, _], _| {
+            let last = standing(book).len() - 1;
+            book[last] = before[last];
+        }),
+        ("the count of assets left as it was", |[before, _], [book, _], _| {
+            book[8..10].copy_from_slice(&before[8..10]);
+        }),
+        ("the count of mitigants left as it was", |[before, _], [book, _], _| {
+            book[10..12].copy_from_slice(&before[10..12]);
+        }),
+        ("one byte of the count of assets", |[before, _], [book, _], _| book[9] = !before[9]),
+        ("the header alone", |[before, _], [book, _], _| {
+            book[40..].copy_from_slice(&before[40..]);
+        }),
+        ("all but the header", |[before, _], [book, _], _| {
+            book[..40].copy_from_slice(&before[..40]);
+        }),
+        ("the total", |_, [book, _], _| change(book, 16)),
+        ("the mark", |_, [book, _], _| change(book, 3)),
+        ("a byte after the report", |_, [_, report], length| change(report, length)),
+        ("the last byte of the report left as it was", |[_, before], [_, report], length| {
+            report[length - 1] = before[length - 1];
+        }),
+        ("the report left as it was", |[_, before], [_, report], _| report.copy_from_slice(before)),
+        ("the charge of 0", |_, [_, report], _| report[64..72].fill(0)),
+    ];
+    let inputs = Movings::new(SEED);
+    for (name, spoil) in slips {
+        let wrong: Mover = &|schedule, movement, book, report| {
+            let before = [book.buffer().to_vec(), report.buffer().to_vec()];
+            let packed = second_moved(schedule, movement, book, report);
+            if let Some(Answer::Written(length)) = Answer::unpacked(packed) {
+                spoil([&before[0], &before[1]], [book.buffer(), report.buffer()], length);
+            }
+            packed
+        };
+        assert!(caught_moving(&inputs, wrong).is_some(), "{name} was not caught");
+    }
+}
+
+/// C-19: bytes beside either buffer, those that a refusal changes, and answers that look at nothing.
+#[test]
+fn movements_beside_their_buffers_are_caught() {
+    let beside = |of_book: bool, behind: bool| {
+        let wrong: Mover = &|schedule, movement, book, report| {
+            let packed = second_moved(schedule, movement, book, report);
+            let area = if of_book { book.area() } else { report.area() };
+            let place = if behind { area.len() - GUARD } else { GUARD - 1 };
+            area[place] ^= 1;
+            packed
+        };
+        caught_moving(&Movings::new(SEED), wrong).is_some()
+    };
+    for (of_book, behind) in [(false, false), (false, true), (true, false), (true, true)] {
+        assert!(beside(of_book, behind));
+    }
+    let inputs = Movings::new(SEED);
+    for number in OF_MOVEMENT {
+        for of_book in [false, true] {
+            let by_refusal: Mover = &|schedule, movement, book, report| {
+                let packed = second_moved(schedule, movement, book, report);
+                let lent = if of_book { book.buffer() } else { report.buffer() };
+                if packed >> 32 == number {
+                    change(lent, lent.len().saturating_sub(1));
+                }
+                packed
+            };
+            assert!(caught_moving(&inputs, by_refusal).is_some(), "{number}, {of_book}");
+        }
+    }
+    let with_place: Mover =
+        &|schedule, movement, book, report| match second_moved(schedule, movement, book, report) {
+            packed if packed >> 32 == 22 => packed | 1,
+            packed => packed,
+        };
+    assert!(caught_moving(&inputs, with_place).is_some());
+    for refusal in [Refusal::Movement, Refusal::BufferShort, Refusal::BookCounts] {
+        let refused: Mover = &|_, _, _, _| Answer::Refused(refusal).packed();
+        assert!(caught_moving(&inputs, refused).is_some());
+    }
+}
+
+/// The refusals of a movement.
+const OF_MOVEMENT: [u64; 18] = [1, 2, 3, 4, 5, 6, 7, 8, 9, 10, 11, 12, 13, 14, 15, 16, 17, 22];
+
+/// C-19: "those of a report made afresh": reports that are not are seen by the library's own.
+#[test]
+fn reports_not_made_afresh_are_caught() {
+    let inputs = Movings::new(SEED);
+    let not_afresh = |slip: Slip| {
+        let wrong: Mover = &|schedule, movement, book, report| {
+            moved_by(&slip, schedule, movement, book.buffer(), report.buffer()).packed()
+        };
+        (inputs.fixed()..inputs.fixed() + SEEDED_MOVINGS / 20).any(|number| {
+            let moving = inputs.get(number);
+            let Ok(left) = compare_movements(wrong, wrong, &moving) else {
+                return false;
+            };
+            let mut accepted = left.iter().filter(|moved| moved.answer >> 32 == 0);
+            accepted.any(|moved| as_afresh(&moving.input.schedule, moved).is_err())
+        })
+    };
+    for slip in [
+        Slip::ReportOfTheStandingBook,
+        Slip::LimitsOfTheStandingBook,
+        Slip::MovedByHalvesOfEachTreaty,
+        Slip::BookStays,
+    ] {
+        assert!(not_afresh(slip), "{slip:?}");
+    }
+    // A report of the wrong assets would not show these: they are caught by the second
+    // implementation.
+    for slip in [Slip::AddedAtTheFront, Slip::ClosedUpWithTheLast, Slip::TotalFollows] {
+        assert!(!not_afresh(slip), "{slip:?}");
+    }
+}
+
 #[test]
 fn the_right_one_is_not_caught() {
     let inputs = Inputs::new(SEED);
@@ -386,6 +539,7 @@ fn the_right_one_is_not_caught() {
     assert_eq!(caught_converting(&Conversions::new(SEED), &second_convert), None);
     assert_eq!(caught_billing(&Billings::new(SEED), &second_bills), None);
     assert_eq!(caught_answering(&Askings::new(SEED), &second_headroom), None);
+    assert_eq!(caught_moving(&Movings::new(SEED), &second_moved), None);
 }
 
 /// A subject that answers as the second implementation and then spoils what it lent.

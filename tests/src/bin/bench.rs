@@ -1,6 +1,6 @@
 //! Times the library beside the second implementation and, where the build was given one, a
 //! yardstick, on four books; then the library alone: on the same books as version 2, its converter,
-//! its bills, its answers to dealers, and how its time grows with the book.
+//! its bills, its answers to dealers, its movements, and how its time grows with the book.
 //!
 //! Rounds of about a millisecond are taken in turn (the slow second implementation in every tenth
 //! alone), and each subject's best round counts. A call is a whole one: checks, report and all.
@@ -12,10 +12,11 @@ use std::hint::black_box;
 use std::time::{Duration, Instant};
 use weightrose_tests::inputs::{at_desks, lifelike, Parents, Shape, KINDS};
 use weightrose_tests::random::Random;
-use weightrose_tests::raw::RawQuestion;
+use weightrose_tests::raw::{Movement, RawAsset, RawQuestion};
 use weightrose_tests::weightrose::{
-    amount, bill, packed_bills, packed_convert, packed_headroom, packed_report, published, Answer,
-    ANSWER, BILLS, LARGEST_REPORT, MOST_QUESTIONS, QUESTION,
+    amount, bill, packed_add, packed_bills, packed_convert, packed_headroom, packed_remove,
+    packed_report, published, Answer, ANSWER, ASSET, BILLS, LARGEST_REPORT, MOST_QUESTIONS,
+    QUESTION,
 };
 #[cfg(yardstick)]
 use weightrose_tests::yardstick;
@@ -303,6 +304,92 @@ fn answers() {
     }
 }
 
+/// A book's bytes with room for one more asset.
+fn lent(book: &[u8]) -> Vec<u8> {
+    [book, &[0; ASSET]].concat()
+}
+
+/// The place behind a book's last asset, where the next one comes.
+fn next_place(book: &[u8]) -> u64 {
+    u64::from(u16::from_le_bytes([book[8], book[9]])) + 1
+}
+
+/// An asset comes to the book in a buffer and goes again.
+fn comes_and_goes(schedule: &[u8], record: &[u8], book: &mut [u8], report: &mut [u8]) -> [u64; 2] {
+    let place = next_place(book);
+    [packed_add(schedule, record, book, report), packed_remove(schedule, place, book, report)]
+}
+
+/// The library and the second implementation must agree on both movements of each book, which is
+/// then as it was.
+fn check_movements(name: &str, record: &[u8], books: &[Vec<u8>]) {
+    for book in books {
+        let [mut one, mut other] = [lent(book), lent(book)];
+        let [mut report, mut same] = [(); 2].map(|()| vec![0xa5; LARGEST_REPORT]);
+        let answers = comes_and_goes(&published(), record, &mut one, &mut report);
+        for (movement, answer) in
+            [Movement::Add(record.to_vec()), Movement::Remove(next_place(book))].iter().zip(answers)
+        {
+            let answered = second::moved(&published(), movement, &mut other, &mut same);
+            assert!(answer >> 32 == 0 && answered.packed() == answer, "{name}: the answers differ");
+        }
+        assert!(one == other && report == same, "{name}: the movements differ");
+        assert!(one[..book.len()] == book[..], "{name}: another book");
+    }
+}
+
+/// A movement as a multiple of the report's time on the same books, which have 899 assets at most, so
+/// that one more may come. Timed is an asset that comes and goes again, after which the book is as it
+/// was, and half of that is a movement.
+fn movements() {
+    println!("\nThe library's movements, half the time of an asset that comes and goes:\n");
+    print_head(&["book", "assets", "report, µs", "movement, µs", "movement / report"]);
+    let record = RawAsset { kind: 11, counterparty: 1, value: 1_000_000, ..Default::default() };
+    let (schedule, record) = (published(), record.bytes());
+    for Case { name, shape } in cases() {
+        let books = books(&Shape { assets: shape.assets.min(899), ..shape });
+        check_movements(name, &record, &books);
+        let mut moved: Vec<Vec<u8>> = books.iter().map(|book| lent(book)).collect();
+        let [mut buffer, mut report] = [(); 2].map(|()| vec![0; LARGEST_REPORT]);
+        let [reported, both] = best_by([
+            &mut |number| {
+                black_box(packed_report(&schedule, black_box(&books[number]), &mut buffer));
+            },
+            &mut |number| {
+                let book = black_box(&mut moved[number]);
+                black_box(comes_and_goes(&schedule, &record, book, &mut report));
+            },
+        ]);
+        print_row(&[
+            name.to_string(),
+            shape.assets.min(899).to_string(),
+            format!("{:.2}", reported / 1_000.0),
+            format!("{:.2}", both / 2_000.0),
+            format!("{:.3}", both / 2.0 / reported),
+        ]);
+    }
+}
+
+/// Nanoseconds of a call of each function on the book of a number: the best of interleaved rounds.
+fn best_by<const N: usize>(mut calls: [&mut dyn FnMut(usize); N]) -> [f64; N] {
+    let time = |call: &mut dyn FnMut(usize), turns: u32| {
+        let start = Instant::now();
+        for _ in 0..turns {
+            (0..BOOKS as usize).for_each(&mut *call);
+        }
+        start.elapsed().as_nanos() as f64 / f64::from(turns) / BOOKS as f64
+    };
+    let mut best: [f64; N] = std::array::from_fn(|number| time(calls[number], 2));
+    let turns = best.map(|call| 1 + (ROUND.as_nanos() as f64 / (call * BOOKS as f64)) as u32);
+    for round in 0..ROUNDS {
+        for place in 0..N {
+            let number = (round + place) % N;
+            best[number] = best[number].min(time(calls[number], turns[number]));
+        }
+    }
+    best
+}
+
 /// Nanoseconds of a call of each function on its books: the best of interleaved rounds.
 fn best_of<const N: usize>(calls: [(Report, &Vec<Vec<u8>>); N]) -> [f64; N] {
     let mut buffer = vec![0; LARGEST_REPORT];
@@ -345,5 +432,6 @@ fn main() {
     versions_and_converter();
     bills();
     answers();
+    movements();
     growth(&subjects[..1]);
 }

@@ -1,15 +1,18 @@
 //! Compares the library with the second implementation and prints what it met: the reports; the
 //! converters, whose books must get the same report before and behind; the bills, which must add up
-//! to the cost of the report's charge; and the answers to lists of questions, which each question
-//! must get when sent singly, and which must hold of the reports of books with so much more.
+//! to the cost of the report's charge; the answers to lists of questions, which each question must
+//! get when sent singly, and which must hold of the reports of books with so much more; and the
+//! movements of days, both buffers after each of them, whose reports must be those made afresh.
 //!
 //!     compare [--inputs N] [--seed S]            N inputs (125,000 unless said) under the seed S, a
 //!                                                fifth as many of the converter, and a quarter
-//!                                                each of the bills and of the questions
+//!                                                each of the bills, of the questions and of days
+//!                                                of movements
 //!     compare --only I [--seed S] [--dump FILE]  input I alone; FILE gets its schedule and book
 //!     compare --conversion I [--seed S] ..       the same of the converter's inputs
 //!     compare --billing I [--seed S] ..          the same of the bills' inputs
 //!     compare --asking I [--seed S] ..           the same of the questions' inputs
+//!     compare --moving I [--seed S] ..           the same of the movements' inputs
 //!     compare --against yardstick ..             with the static library that the build was given,
 //!                                                reports, and the bills and the questions' answers
 //!                                                where that library has them; where treaties share
@@ -22,28 +25,36 @@
 //! also under schedules of version 2 alone unless these are left out, no report had a higher tier
 //! number before a lower one of the same limit, too few inputs had treaties that share a half, one
 //! that an earlier one cut short, or one that is covered for more than half of its net, no more than
-//! half of the bills were of excesses at several desks, or a sort of question or answer was not met.
+//! half of the bills were of excesses at several desks, a sort of question or answer was not met, or
+//! too few assets were added or taken away, or a sort of these was not met.
 
 use std::process::ExitCode;
 use std::time::Instant;
 use weightrose_tests::compare::{
-    adds_up, as_singly, compare, compare_before, compare_bills, compare_bills_before,
-    compare_headroom, compare_headroom_before, in_tier_order, keeps, library, library_bills,
-    library_convert, library_headroom, may_be_bought, runs, second, second_bills, second_convert,
-    second_headroom, Difference, Lent, Outcome, GUARD,
+    adds_up, as_afresh, as_singly, compare, compare_before, compare_bills, compare_bills_before,
+    compare_headroom, compare_headroom_before, compare_movements, in_tier_order, keeps, library,
+    library_bills, library_convert, library_headroom, library_moved, may_be_bought, runs, second,
+    second_bills, second_convert, second_headroom, second_moved, standing, Lent, Moved, Outcome,
+    GUARD,
 };
-use weightrose_tests::inputs::{Asking, Askings, Billing, Billings, Conversions, Input, Inputs};
-use weightrose_tests::raw::MOST;
-use weightrose_tests::second::{halves_of, met_of, served_of};
+use weightrose_tests::inputs::{
+    Asking, Askings, Billing, Billings, Conversions, Input, Inputs, Moving, Movings, Step,
+};
+use weightrose_tests::raw::{Movement, MOST};
+use weightrose_tests::second::{halves_of, met_by, met_of, served_of};
 use weightrose_tests::weightrose::{amount, Answer, HEADER, LINE, MOST_QUESTIONS};
 
-const REFUSALS: usize = 21;
-/// The refusals that a report has, those that a conversion has, those that bills have, and those
-/// that a list of questions has.
+const REFUSALS: usize = 22;
+/// The refusals that a report has, those that a conversion has, those that bills have, those that a
+/// list of questions has, and those that a movement has.
 const OF_REPORT: &[usize] = &[1, 2, 3, 4, 5, 6, 7, 8, 9, 10, 11, 12, 13, 14, 15, 16, 17];
 const OF_CONVERSION: &[usize] = &[5, 6, 7, 8, 9, 10, 11, 12, 13, 14, 15, 16, 17, 18];
 const OF_BILLS: &[usize] = &[1, 2, 3, 4, 5, 6, 7, 8, 9, 10, 11, 12, 13, 14, 15, 16, 17, 19];
 const OF_HEADROOM: &[usize] = &[1, 2, 3, 4, 5, 6, 7, 8, 9, 10, 11, 12, 13, 14, 15, 17, 20, 21];
+const OF_MOVEMENT: &[usize] = &[1, 2, 3, 4, 5, 6, 7, 8, 9, 10, 11, 12, 13, 14, 15, 16, 17, 22];
+/// The refusals that an asset more can bring a book that is accepted, and those that one less can.
+const OF_ONE_MORE: &[usize] = &[8, 11, 13, 14, 15, 17];
+const OF_ONE_LESS: &[usize] = &[15];
 /// The tiers that a question can be about.
 const TIERS_ASKED: [usize; 5] = [0, 2, 10, 11, 12];
 /// The refusal of a rate: the first that a schedule of a known version can have.
@@ -77,6 +88,7 @@ struct Options {
     conversion: Option<usize>,
     billing: Option<usize>,
     asking: Option<usize>,
+    moving: Option<usize>,
     without_version: Option<u8>,
     without_schedule_version: Option<u8>,
     dump: Option<String>,
@@ -140,6 +152,7 @@ fn options() -> Result<Options, String> {
         conversion: None,
         billing: None,
         asking: None,
+        moving: None,
         without_version: None,
         without_schedule_version: None,
         dump: None,
@@ -156,6 +169,7 @@ fn options() -> Result<Options, String> {
             "--conversion" => options.conversion = Some(number()? as usize),
             "--billing" => options.billing = Some(number()? as usize),
             "--asking" => options.asking = Some(number()? as usize),
+            "--moving" => options.moving = Some(number()? as usize),
             "--without-version" => options.without_version = Some(number()? as u8),
             "--without-schedule-version" => {
                 options.without_schedule_version = Some(number()? as u8);
@@ -211,11 +225,11 @@ struct Met {
 }
 
 impl Met {
-    fn count(&mut self, input: &Input, outcome: &Outcome) {
+    fn count(&mut self, input: &Input, answer: u64) {
         self.specialist_funds += u64::from(input.book.get(12) == Some(&1));
         self.books_of_version_2 += u64::from(input.book.get(4) == Some(&2));
         self.inputs.add(input);
-        match Answer::unpacked(outcome.answer) {
+        match Answer::unpacked(answer) {
             Some(Answer::Refused(refusal)) => {
                 self.refusals[refusal.number() as usize - 1].add(input);
             }
@@ -223,7 +237,7 @@ impl Met {
                 self.written.add(input);
                 self.count_halves(input);
             }
-            None => unreachable!("both answered {:#x}", outcome.answer),
+            None => unreachable!("both answered {answer:#x}"),
         }
     }
 
@@ -317,11 +331,16 @@ impl Met {
     }
 }
 
+/// One of the counts of a book's bytes.
+fn count(book: &[u8], place: usize) -> u64 {
+    u64::from(u16::from_le_bytes([book[place], book[place + 1]]))
+}
+
 /// How many reinsurance assets a book's bytes have.
 fn treaties(book: &[u8]) -> usize {
-    let count = |place| usize::from(u16::from_le_bytes([book[place], book[place + 1]]));
-    let first = 40 + 4 * count(6);
-    (0..count(8)).filter(|asset| book.get(first + 48 * asset) == Some(&9)).count()
+    let first = 40 + 4 * count(book, 6) as usize;
+    let assets = 0..count(book, 8) as usize;
+    assets.filter(|asset| book.get(first + 48 * asset) == Some(&9)).count()
 }
 
 /// What accepted inputs of the bills met.
@@ -442,14 +461,118 @@ impl MetQuestions {
     }
 }
 
+/// What the movements of one entry met.
+#[derive(Default)]
+struct MetMovements {
+    met: Met,
+    /// By the resulting book's number.
+    by_result: [u64; REFUSALS],
+    book_short: u64,
+    report_short: u64,
+    both_short: u64,
+    /// Behind another one of the same day, and those of these that were refused.
+    later: u64,
+    later_refused: u64,
+    /// Accepted ones with bytes past the new end of the book.
+    rest: u64,
+    /// Accepted ones with mitigants, and by the place: first, last, any between.
+    mitigated: u64,
+    first: u64,
+    last: u64,
+    between: u64,
+}
+
+impl MetMovements {
+    /// One movement: the book's buffer before it, and what it left.
+    fn count(&mut self, input: &Input, step: &Step, later: bool, before: &[u8], moved: &Moved) {
+        let refused = moved.answer >> 32 > 0;
+        let book = if refused { before } else { standing(moved.book()) };
+        self.met.count(&Input { book: book.to_vec(), ..input.clone() }, moved.answer);
+        self.later += u64::from(later);
+        self.later_refused += u64::from(later && refused);
+        if refused {
+            let met =
+                met_by(&input.schedule, &step.movement, before, moved.report.len() - 2 * GUARD);
+            if let Some(number) = met.resulting {
+                self.by_result[number as usize - 1] += 1;
+            }
+            self.book_short += u64::from(met.book_short && !met.report_short);
+            self.report_short += u64::from(met.report_short && !met.book_short);
+            self.both_short += u64::from(met.report_short && met.book_short);
+            return;
+        }
+        let assets = count(before, 8);
+        self.rest += u64::from(book.len() < moved.book().len());
+        self.mitigated += u64::from(count(before, 10) > count(book, 10));
+        if let Movement::Remove(place) = step.movement {
+            self.first += u64::from(place == 1);
+            self.last += u64::from(place == assets);
+            self.between += u64::from(1 < place && place < assets);
+        }
+    }
+
+    /// Each figure with its name, those of the resulting book's refusals too.
+    fn figures(&self, removals: bool) -> Vec<(String, u64)> {
+        let results = if removals { OF_ONE_LESS } else { OF_ONE_MORE };
+        let by_result = |&number: &usize| {
+            (format!("by {number} of the resulting book"), self.by_result[number - 1])
+        };
+        let mut figures: Vec<(String, u64)> = results.iter().map(by_result).collect();
+        let named = |(name, count): (&str, u64)| (name.to_string(), count);
+        if removals {
+            figures.extend(
+                [
+                    ("by 16 of the report's buffer", self.report_short),
+                    ("of the first asset", self.first),
+                    ("of the last asset", self.last),
+                    ("of one between", self.between),
+                    ("with mitigants", self.mitigated),
+                ]
+                .map(named),
+            );
+        } else {
+            figures.extend(
+                [
+                    ("by 16 of the book's buffer alone", self.book_short),
+                    ("by 16 of the report's alone", self.report_short),
+                    ("by 16 of both", self.both_short),
+                ]
+                .map(named),
+            );
+        }
+        figures.extend(
+            [
+                ("with bytes past the new end", self.rest),
+                ("behind another one of a day", self.later),
+                ("refused behind another one", self.later_refused),
+            ]
+            .map(named),
+        );
+        figures
+    }
+
+    fn print(&self, name: &str, removals: bool) {
+        self.met.print(name, OF_MOVEMENT);
+        for (name, count) in self.figures(removals) {
+            println!("  {name:32} {count:9}");
+        }
+    }
+
+    fn met(&self, removals: bool) -> bool {
+        self.met.refusals_met(OF_MOVEMENT)
+            && self.met.refusals_met_under_both(OF_MOVEMENT)
+            && self.figures(removals).iter().all(|&(_, count)| count > 0)
+    }
+}
+
 /// One comparison of an input, which is named where the two differ.
-fn compare_one(
+fn compare_one<T, D: std::fmt::Display>(
     options: &Options,
     option: &str,
     number: usize,
     input: &Input,
-    comparison: impl FnOnce() -> Result<Outcome, Difference>,
-) -> Result<Outcome, String> {
+    comparison: impl FnOnce() -> Result<T, D>,
+) -> Result<T, String> {
     if let Some(file) = &options.dump {
         let bytes = [&input.schedule[..], &input.book[..]].concat();
         std::fs::write(file, bytes).map_err(|error| format!("{file}: {error}"))?;
@@ -495,7 +618,7 @@ fn reports(options: &Options) -> Result<(), String> {
             Ok(outcome)
         };
         let outcome = compare_one(options, "--only", number, &input, both)?;
-        met.count(&input, &outcome);
+        met.count(&input, outcome.answer);
         met.count_lines(&input, &outcome);
     }
     met.print("reports", OF_REPORT);
@@ -544,7 +667,7 @@ fn conversions(options: &Options) -> Result<(), String> {
             keeps(&input, &outcome.area[GUARD..GUARD + length])
                 .map_err(|what| named(options, "--conversion", number, &input, &what))?;
         }
-        met.count(&input, &outcome);
+        met.count(&input, outcome.answer);
     }
     met.print("converted", OF_CONVERSION);
     if options.conversion.is_none() && !met.refusals_met(OF_CONVERSION) {
@@ -588,7 +711,7 @@ fn bills(options: &Options, other: Bills) -> Result<(), String> {
                 .map_err(|what| named(options, "--billing", number, input, &what))?;
             met_bills.count(input);
         }
-        met.count(input, &outcome);
+        met.count(input, outcome.answer);
     }
     met.print("bills", OF_BILLS);
     met_bills.print();
@@ -641,7 +764,7 @@ fn questions(options: &Options, other: Headroom) -> Result<(), String> {
                 .map_err(|what| named(options, "--asking", number, input, &what))?;
             met_questions.count(&asking, answers, tried);
         }
-        met.count(input, &outcome);
+        met.count(input, outcome.answer);
     }
     met.print("answered", OF_HEADROOM);
     met_questions.print();
@@ -664,9 +787,64 @@ fn questions(options: &Options, other: Headroom) -> Result<(), String> {
     Ok(())
 }
 
+fn movements(options: &Options) -> Result<(), String> {
+    let start = Instant::now();
+    let inputs = Movings::new(options.seed);
+    let mut met: [MetMovements; 2] = Default::default();
+    let mut days = 0;
+    for number in numbers(options.moving, options.inputs / 4) {
+        let moving = inputs.get(number);
+        let Moving { input, steps } = &moving;
+        let both = || compare_movements(&library_moved, &second_moved, &moving);
+        let left = compare_one(options, "--moving", number, input, both).map_err(|what| {
+            let movements: Vec<&Movement> = steps.iter().map(|step| &step.movement).collect();
+            format!("{what}, movements {movements:?}")
+        })?;
+        days += u64::from(steps.len() > 1);
+        let mut before = &input.book[..];
+        for (place, (step, moved)) in steps.iter().zip(&left).enumerate() {
+            if moved.answer >> 32 == 0 {
+                as_afresh(&input.schedule, moved).map_err(|what| {
+                    let what = format!("movement {}: {what}", place + 1);
+                    named(options, "--moving", number, input, &what)
+                })?;
+            }
+            let [additions, removals] = &mut met;
+            let of_entry = match step.movement {
+                Movement::Add(_) => additions,
+                Movement::Remove(_) => removals,
+            };
+            of_entry.count(input, step, place > 0, before, moved);
+            before = moved.book();
+        }
+    }
+    let [additions, removals] = &met;
+    additions.print("added", false);
+    removals.print("taken away", true);
+    let counts = [additions, removals].map(|met| met.met.inputs.all);
+    if options.moving.is_none() {
+        if !(additions.met(false) && removals.met(true)) {
+            return Err("a refusal of the movements or a sort of them was not met".to_string());
+        }
+        if counts.into_iter().any(|count| count < options.inputs as u64 / 25) {
+            return Err("too few assets were added or taken away".to_string());
+        }
+        if ![additions, removals].into_iter().all(|met| met.met.halves_met(true)) {
+            return Err(TOO_FEW_HALVES.to_string());
+        }
+    }
+    let [added, taken] = counts;
+    let (fixed, seconds) = (inputs.fixed(), start.elapsed().as_secs_f64());
+    println!(
+        "movements compared on {added} inputs of one asset more and {taken} of one less, {days} days \
+         of several, the first {fixed} inputs fixed: no difference, {seconds:.1} s"
+    );
+    Ok(())
+}
+
 fn run(options: &Options) -> Result<(), String> {
     println!("library and {}, seed {}", options.against.name, options.seed);
-    let one = [options.only, options.conversion, options.billing, options.asking];
+    let one = [options.only, options.conversion, options.billing, options.asking, options.moving];
     let asked = |entry: usize| one[entry].is_some() || one.iter().all(Option::is_none);
     if asked(0) {
         reports(options)?;
@@ -685,6 +863,9 @@ fn run(options: &Options) -> Result<(), String> {
             Some(headroom) => questions(options, headroom)?,
             None => println!("{} answers no questions", options.against.name),
         }
+    }
+    if asked(4) && options.against.name == SECOND.name {
+        movements(options)?;
     }
     Ok(())
 }

@@ -721,7 +721,7 @@ fn seeded(random: &mut Random, reports: &[Input]) -> Asking {
 
 /// A fund with few groups whose exposures and limits are parts of one amount, so that tiers are
 /// full, nearly full and tie; often of a specialist, and of either version.
-fn near_limits(random: &mut Random) -> (RawSchedule, RawBook) {
+pub fn near_limits(random: &mut Random) -> (RawSchedule, RawBook) {
     let (counterparties, assets, mitigants) = match random.below(200) {
         0..=189 => (random.between(1, 6), random.between(1, 14), random.below(6)),
         190..=198 => (random.between(1, 40), random.between(10, 100), random.below(60)),

@@ -5,8 +5,8 @@
 //! seeded books of any fund (`books`) and, every seventh each, of a specialist one (`specialist`),
 //! under rates in ten-thousandths (`rates`), with such limits (`ties`) and with such treaties
 //! (`halves`), some of them with faults or damage (`faults`). The converter has a list of its own
-//! (`conversions`), and so have the bills (`billings`) and the questions of dealers (`askings`). An
-//! input's number and the seed make it again.
+//! (`conversions`), and so have the bills (`billings`), the questions of dealers (`askings`) and the
+//! movements of a day (`movings`). An input's number and the seed make it again.
 
 mod askings;
 mod billings;
@@ -17,6 +17,7 @@ mod edges;
 mod extremes;
 mod faults;
 mod halves;
+mod movings;
 mod rates;
 mod specialist;
 mod ties;
@@ -29,6 +30,7 @@ pub use conversions::Conversions;
 pub use edges::sample;
 pub use extremes::{largest_report_book, largest_specialist_book, sixteen_tiers};
 pub use halves::all as shared_halves;
+pub use movings::{Moving, Movings, Step};
 pub use ties::all as near_ties;
 pub use versions::at_desks;
 
@@ -90,8 +92,8 @@ impl Inputs {
     }
 }
 
-/// All inputs of the bills or of the answers under one seed: the fixed ones, then seeded ones
-/// without end.
+/// All inputs of the bills, of the answers or of movements under one seed: the fixed ones, then
+/// seeded ones without end.
 pub struct Listed<T> {
     seed: u64,
     /// Seeded inputs of the other entries have other numbers.

@@ -1,13 +1,14 @@
-//! A second implementation of document 01, with document 02's requests C-11 and C-13 to C-18,
+//! A second implementation of document 01, with document 02's requests C-11 and C-13 to C-19,
 //! written from the documents and from nothing else.
 //!
 //! It reads bytes into records (`read`), takes values, exposures, tiers and limits from them
 //! (`fund`), sums them by group and cuts what passes a limit (`cascade`), and writes the report
 //! (`write`); a book is converted record by record (`convert`), desks are billed line by line
-//! (`bills`), and what more may be bought is found by trying amounts (`headroom`). Amounts are
-//! `i128`, rates and limits exact fractions (`fraction`), so that no bound on them has to be known.
-//! Each sentence that could be got wrong by itself is a method of `rules`; `slip` has the wrong
-//! variants that a comparison must catch. What treaties met as they drew on a half is in `halves`.
+//! (`bills`), what more may be bought is found by trying amounts (`headroom`), and assets come and go
+//! in a list of records of which a book is printed afresh (`movements`). Amounts are `i128`, rates
+//! and limits exact fractions (`fraction`), so that no bound on them has to be known. Each sentence
+//! that could be got wrong by itself is a method of `rules`; `slip` has the wrong variants that a
+//! comparison must catch. What treaties met as they drew on a half is in `halves`.
 
 mod bills;
 mod cascade;
@@ -16,6 +17,7 @@ mod fraction;
 mod fund;
 mod halves;
 mod headroom;
+mod movements;
 mod read;
 mod records;
 mod rules;
@@ -26,6 +28,7 @@ pub use bills::{bills, bills_by, served_of, Served};
 pub use convert::{convert, convert_by, rebuilt};
 pub use halves::{halves_of, MetHalves};
 pub use headroom::{headroom, headroom_by, met_of, tried, MetQuestion};
+pub use movements::{length_after, met_by, moved, moved_by, MetMovement};
 pub use rules::{Documents, Rules};
 pub use slip::Slip;
 
@@ -83,12 +86,28 @@ fn accepted_by<R: Rules>(
     book: &[u8],
     taken_for: TakenFor,
 ) -> Result<Accepted, Refusal> {
+    Ok(figured(rules, checked_by(rules, schedule, book)?, taken_for))
+}
+
+/// A schedule and a book that 1 to 15 and 17 do not turn back.
+struct Checked {
+    schedule: Schedule,
+    book: Book,
+    values: Values,
+}
+
+fn checked_by<R: Rules>(rules: &R, schedule: &[u8], book: &[u8]) -> Result<Checked, Refusal> {
     let schedule = read::schedule(rules, schedule)?;
     let book = read::book(rules, |version| rules.version_passes(version), book)?;
     let values = fund::values(rules, &book);
-    if let Some(refusal) = fund::refusal(rules, &book, &values) {
-        return Err(refusal);
+    match fund::refusal(rules, &book, &values) {
+        Some(refusal) => Err(refusal),
+        None => Ok(Checked { schedule, book, values }),
     }
+}
+
+fn figured<R: Rules>(rules: &R, checked: Checked, taken_for: TakenFor) -> Accepted {
+    let Checked { schedule, book, values } = checked;
     let sums = cascade::sums(rules, &book, taken_for);
     let limits = fund::limits(rules, &schedule, book.base, &values, sums.w);
     let groups: Vec<Vec<Line>> = sums
@@ -111,5 +130,5 @@ fn accepted_by<R: Rules>(
         a3_limit,
         charge: rules.charge(group_excess, a3_sum, a3_limit),
     };
-    Ok(Accepted { schedule, book, values, sums, limits, groups, figures })
+    Accepted { schedule, book, values, sums, limits, groups, figures }
 }

@@ -258,13 +258,14 @@ pub enum Kept {
     Nothing,
 }
 
-/// What covered parts and remainders are taken for: the report's lines, the bills, or the answers to
-/// questions.
+/// What covered parts and remainders are taken for: the report's lines, the bills, the answers to
+/// questions, or the report after a movement.
 #[derive(Clone, Copy, Debug, PartialEq, Eq)]
 pub enum TakenFor {
     Lines,
     Bills,
     Answers,
+    Movements,
 }
 
 /// Which half it is: a counterparty's, by its place. The second number is 0, but where a slip has
@@ -373,3 +374,13 @@ pub struct DeskExcess {
     pub of_lines: i128,
     pub of_a3: i128,
 }
+
+/// An asset's record as it is stored, with its mitigants' (C-19).
+#[derive(Clone, Debug)]
+pub struct StoredAsset {
+    pub record: [u8; 48],
+    pub mitigants: Vec<[u8; 12]>,
+}
+
+/// A book's header amounts: total assets, capital base, excluded assets.
+pub type Amounts = [i128; 3];

@@ -3,6 +3,7 @@
 //! is document 01's, but where a request of document 02 is named.
 
 use super::fraction::Fraction;
+use super::fund::Values;
 use super::records::*;
 use crate::weightrose::{Refusal, BILLS, DESKS};
 use std::collections::BTreeMap;
@@ -324,6 +325,120 @@ pub trait Rules {
     /// bought for the questions behind it.
     fn bought(&self, _answer: i128) -> i128 {
         0
+    }
+
+    // Movements through the day (C-19).
+
+    /// "its length read from its counts", C, N and K. Document 01: "Length is 40 + 4C + 48N + 12K."
+    fn standing_length(&self, _buffer: usize, counts: [usize; 3]) -> usize {
+        let [counterparties, assets, mitigants] = counts;
+        40 + 4 * counterparties + 48 * assets + 12 * mitigants
+    }
+
+    /// "After 1 to 15 on the book as it stands": what they find of schedule and book. "8 if the
+    /// buffer is shorter" is what document 01 finds of the bytes that are there, behind 6 and 7.
+    fn of_standing(&self, found: Option<Refusal>, _shorter: bool) -> Option<Refusal> {
+        found
+    }
+
+    /// "22 when the place taken away isn't there": none; else the place, from 1, of so many assets.
+    fn place_taken(&self, place: u64, assets: usize) -> Option<usize> {
+        usize::try_from(place).ok().filter(|place| (1..=assets).contains(place))
+    }
+
+    /// "22 when .. the record isn't 48 bytes": none.
+    fn record_added(&self, record: &[u8]) -> Option<[u8; 48]> {
+        record.try_into().ok()
+    }
+
+    /// "a 48-byte asset record without mitigants": it comes as it is. One that counts mitigants
+    /// makes a book of which 13 finds that counts don't add to K.
+    fn record_kept(&self, _version: u16, record: [u8; 48]) -> [u8; 48] {
+        record
+    }
+
+    /// "at the end": how many of so many assets stand before it.
+    fn before_added(&self, assets: usize) -> usize {
+        assets
+    }
+
+    /// "takes the asset at a place away with its mitigants and closes up": the place is there.
+    fn take_away(&self, assets: &mut Vec<StoredAsset>, place: usize) {
+        assets.remove(place - 1);
+    }
+
+    /// "counts follow": C, N and K.
+    fn counts_after(&self, _before: [usize; 3], after: [usize; 3]) -> [usize; 3] {
+        after
+    }
+
+    /// "Header amounts .. stay", whatever asset was added or taken away.
+    fn amounts_after(&self, amounts: Amounts, _record: &[u8; 48], _added: bool) -> Amounts {
+        amounts
+    }
+
+    /// The records behind the counterparties. Document 01: "Mitigant, 12 bytes, in asset order",
+    /// behind the assets, the one that was added too.
+    fn laid_out(&self, assets: &[StoredAsset], _added: bool) -> Vec<u8> {
+        let records = assets.iter().flat_map(|asset| asset.record);
+        let mitigants = assets.iter().flat_map(|asset| asset.mitigants.concat());
+        records.chain(mitigants).collect()
+    }
+
+    /// "a movement whose resulting book would be refused is refused by that book's number and
+    /// place": what 5 to 15 and 17 find of it, where this record was added to a book of the version.
+    fn of_resulting(
+        &self,
+        found: Option<Refusal>,
+        _version: u16,
+        _record: Option<&[u8; 48]>,
+    ) -> Option<Refusal> {
+        found
+    }
+
+    /// "16 where either buffer is short": the first is, for the resulting book.
+    fn book_fits(&self, buffer: usize, book: usize) -> bool {
+        buffer >= book
+    }
+
+    /// "16 where either buffer is short": the second is, for its report.
+    fn report_fits(&self, buffer: usize, report: usize) -> bool {
+        buffer >= report
+    }
+
+    /// "After 1 to 15 on the book as it stands", then 22, "before any other check of that movement",
+    /// then what the resulting book is refused by, then 16 of the book's buffer and of the report's.
+    fn first_of_movement(&self, found: [Option<Refusal>; 5]) -> Option<Refusal> {
+        found.into_iter().flatten().next()
+    }
+
+    /// "and changes nothing": whether the book's buffer is changed and whether the report's is,
+    /// where that was found.
+    fn changed(&self, found: [Option<Refusal>; 5]) -> [bool; 2] {
+        [found.iter().all(Option::is_none); 2]
+    }
+
+    /// "Header amounts and bytes past the new end stay": the book's buffer after a movement, where
+    /// the old book had so many bytes.
+    fn buffer_after(&self, before: &[u8], _old_length: usize, new: &[u8]) -> Vec<u8> {
+        [new, &before[new.len()..]].concat()
+    }
+
+    /// "the charge and the lines after it are those of a report made afresh from the assets then
+    /// present": of the book as it was and as it is, the second.
+    fn reported<T>(&self, _standing: T, resulting: T) -> T {
+        resulting
+    }
+
+    /// "a report made afresh": VAF and VAF′ too.
+    fn values_after(&self, _standing: &Values, resulting: &Values) -> Values {
+        resulting.clone()
+    }
+
+    /// The answer to a movement is a report's: document 01's "The answer carries the report's
+    /// length."
+    fn length_answered(&self, report: usize, _book: usize) -> usize {
+        report
     }
 
     // Values (P16 to P20, P26, P27).

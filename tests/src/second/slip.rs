@@ -2,7 +2,7 @@
 //! documents wrong. A comparison that lets one of them pass shows nothing.
 
 use super::fraction::Fraction;
-use super::fund::recognised;
+use super::fund::{recognised, Values};
 use super::records::*;
 use super::rules::{Documents, Rules};
 use crate::weightrose::{Refusal, BILLS, DESKS};
@@ -28,12 +28,18 @@ macro_rules! slips {
 
             /// Whether it is of the bills alone.
             pub fn of_bills(self) -> bool {
-                !self.is_before(Slip::CostRate1000Refused) && !self.of_headroom()
+                !self.is_before(Slip::CostRate1000Refused)
+                    && self.is_before(Slip::Questions200Refused)
             }
 
             /// Whether it is of the answers to questions alone.
             pub fn of_headroom(self) -> bool {
-                !self.is_before(Slip::Questions200Refused)
+                !self.is_before(Slip::Questions200Refused) && !self.of_movements()
+            }
+
+            /// Whether it is of movements alone.
+            pub fn of_movements(self) -> bool {
+                !self.is_before(Slip::StandingBookIsTheWholeBuffer)
             }
 
             fn is_before(self, slip: Slip) -> bool {
@@ -514,6 +520,81 @@ slips! {
     LimitsWithTheAmount,
     WWithTheAmount,
     AnswersBoughtInTurn,
+
+    // Movements: the book as it stands.
+    StandingBookIsTheWholeBuffer,
+    ShorterBufferAs5,
+    ShorterBufferAs16,
+    ShorterBufferBefore6,
+    StandingBookNotChecked,
+
+    // What 22 turns back, and when.
+    Place0TakesTheFirst,
+    PlaceBehindTheLastTakesTheLast,
+    LastPlaceNotTaken,
+    PlacesTakenFrom0,
+    PlaceTakenOf8Bits,
+    PlaceTakenOf16Bits,
+    PlaceTakenOf32Bits,
+    LongRecordCut,
+    ShortRecordPadded,
+    RecordsOf48BytesEach,
+    MovementNotChecked,
+    MovementFirst,
+    MovementBeforeTheBook,
+    MovementBefore15,
+    MovementAfterTheResult,
+    MovementAfter16,
+    ShortBuffersBefore22,
+
+    // What comes and goes.
+    AddedAtTheFront,
+    AddedBeforeTheLast,
+    AddedBehindTheMitigants,
+    RecordsCountCleared,
+    RecordsDeskCleared,
+    MitigantsStay,
+    FirstMitigantsTaken,
+    LastMitigantsTaken,
+    NextMitigantsTaken,
+    ClosedUpWithTheLast,
+    TakenAssetBlanked,
+    AssetCountStays,
+    MitigantCountStays,
+    TotalFollows,
+    TotalFollowsReinsurance,
+    BaseFollows,
+    OldEndCleared,
+    RestCleared,
+    RestMovedAlong,
+    BookStays,
+
+    // What the resulting book is refused by.
+    ResultRefusedAs22,
+    ResultRefusedWithoutPlace,
+    BadRecordAtPlace1,
+    BadRecordAtTheLastPlace,
+    RecordWithACountAs22,
+    RecordsCountOfTwoBytes,
+
+    // Short buffers, and what a refusal leaves.
+    BookBufferNotAsked,
+    BookBufferOfItsLengthRefused,
+    BookBufferOneByteShortPasses,
+    ReportBufferOfItsLengthRefused,
+    ReportBufferOneByteShortPasses,
+    BookShortBeforeTheResult,
+    ReportShortBeforeTheResult,
+    ReportShortBeforeTheBook,
+    BookChangedWhereTheReportIsShort,
+    BookChangedWhereTheResultIsRefused,
+    ReportWrittenWhereTheBookIsShort,
+
+    // The report after a movement.
+    ReportOfTheStandingBook,
+    LimitsOfTheStandingBook,
+    MovedByHalvesOfEachTreaty,
+    BooksLengthAnswered,
 }
 
 impl Slip {
@@ -1107,6 +1188,259 @@ impl Rules for Slip {
         }
     }
 
+    fn standing_length(&self, buffer: usize, counts: [usize; 3]) -> usize {
+        match self {
+            Slip::StandingBookIsTheWholeBuffer => buffer,
+            _ => Documents.standing_length(buffer, counts),
+        }
+    }
+
+    fn of_standing(&self, found: Option<Refusal>, shorter: bool) -> Option<Refusal> {
+        let number = found.filter(|_| shorter).map_or(0, Refusal::number);
+        match (self, number) {
+            (Slip::ShorterBufferAs5, 8) => Some(Refusal::BookLength),
+            (Slip::ShorterBufferAs16, 8) => Some(Refusal::BufferShort),
+            (Slip::ShorterBufferBefore6, 6 | 7) => Some(Refusal::BookCounts),
+            _ => Documents.of_standing(found, shorter),
+        }
+    }
+
+    fn place_taken(&self, place: u64, assets: usize) -> Option<usize> {
+        let right = |place| Documents.place_taken(place, assets);
+        match self {
+            Slip::Place0TakesTheFirst => right(place.max(1)),
+            Slip::PlaceBehindTheLastTakesTheLast if place == assets as u64 + 1 => right(place - 1),
+            Slip::LastPlaceNotTaken => right(place).filter(|&place| place < assets),
+            Slip::PlacesTakenFrom0 => right(place.saturating_add(1)),
+            Slip::PlaceTakenOf8Bits => right(u64::from(place as u8)),
+            Slip::PlaceTakenOf16Bits => right(u64::from(place as u16)),
+            Slip::PlaceTakenOf32Bits => right(u64::from(place as u32)),
+            _ => right(place),
+        }
+    }
+
+    fn record_added(&self, record: &[u8]) -> Option<[u8; 48]> {
+        let right = Documents.record_added(record);
+        let padded = || [record, &[0; 48]].concat()[..48].try_into().ok();
+        match self {
+            Slip::LongRecordCut if record.len() > 48 => padded(),
+            Slip::ShortRecordPadded if record.len() < 48 => padded(),
+            Slip::RecordsOf48BytesEach if record.len() == 96 => padded(),
+            _ => right,
+        }
+    }
+
+    fn record_kept(&self, version: u16, record: [u8; 48]) -> [u8; 48] {
+        let mut kept = Documents.record_kept(version, record);
+        match self {
+            Slip::RecordsCountCleared if version == 2 => kept[6] = 0,
+            Slip::RecordsCountCleared => kept[6..8].fill(0),
+            Slip::RecordsDeskCleared if version == 2 => kept[7] = 0,
+            _ => {}
+        }
+        kept
+    }
+
+    fn before_added(&self, assets: usize) -> usize {
+        match self {
+            Slip::AddedAtTheFront => 0,
+            Slip::AddedBeforeTheLast => assets.saturating_sub(1),
+            _ => Documents.before_added(assets),
+        }
+    }
+
+    fn take_away(&self, assets: &mut Vec<StoredAsset>, place: usize) {
+        let at = place - 1;
+        let own = assets[at].mitigants.len();
+        let before: usize = assets[..at].iter().map(|asset| asset.mitigants.len()).sum();
+        // So many mitigants, but others: those behind as many of them all.
+        let take_others = |assets: &mut Vec<StoredAsset>, behind: usize| {
+            let mut all: Vec<[u8; 12]> =
+                assets.iter().flat_map(|asset| asset.mitigants.clone()).collect();
+            let behind = behind.min(all.len() - own);
+            all.drain(behind..behind + own);
+            assets.remove(at);
+            let mut rest = all.into_iter();
+            for asset in assets {
+                asset.mitigants = rest.by_ref().take(asset.mitigants.len()).collect();
+            }
+        };
+        match self {
+            Slip::MitigantsStay => {
+                let mut stay = assets.remove(at).mitigants;
+                if let Some(next) = assets.get_mut(at) {
+                    stay.append(&mut next.mitigants);
+                    next.mitigants = stay;
+                } else if let Some(last) = assets.last_mut() {
+                    last.mitigants.append(&mut stay);
+                }
+            }
+            Slip::FirstMitigantsTaken => take_others(assets, 0),
+            Slip::LastMitigantsTaken => take_others(assets, usize::MAX),
+            Slip::NextMitigantsTaken => take_others(assets, before + 1),
+            Slip::ClosedUpWithTheLast => {
+                assets.swap_remove(at);
+            }
+            Slip::TakenAssetBlanked => {
+                assets[at].record[6..].fill(0);
+                assets[at].mitigants.clear();
+            }
+            _ => Documents.take_away(assets, place),
+        }
+    }
+
+    fn counts_after(&self, before: [usize; 3], after: [usize; 3]) -> [usize; 3] {
+        let [counterparties, assets, mitigants] = after;
+        match self {
+            Slip::AssetCountStays => [counterparties, before[1], mitigants],
+            Slip::MitigantCountStays => [counterparties, assets, before[2]],
+            _ => Documents.counts_after(before, after),
+        }
+    }
+
+    fn amounts_after(&self, amounts: Amounts, record: &[u8; 48], added: bool) -> Amounts {
+        let right = Documents.amounts_after(amounts, record, added);
+        let [total, base, excluded] = right;
+        let value = i128::from(u64::from_le_bytes(record[8..16].try_into().unwrap()));
+        let change = if added { value } else { -value };
+        let follows = [(total + change).clamp(0, i128::from(u64::MAX)), base, excluded];
+        match self {
+            Slip::TotalFollows => follows,
+            Slip::TotalFollowsReinsurance if record[0] == 9 => follows,
+            Slip::BaseFollows => [total, (base + change).clamp(-MOST, MOST), excluded],
+            _ => right,
+        }
+    }
+
+    fn laid_out(&self, assets: &[StoredAsset], added: bool) -> Vec<u8> {
+        let right = Documents.laid_out(assets, added);
+        match (self, assets.split_last()) {
+            (Slip::AddedBehindTheMitigants, Some((last, before))) if added => {
+                [&Documents.laid_out(before, added)[..], &last.record].concat()
+            }
+            _ => right,
+        }
+    }
+
+    fn of_resulting(
+        &self,
+        found: Option<Refusal>,
+        version: u16,
+        record: Option<&[u8; 48]>,
+    ) -> Option<Refusal> {
+        let right = Documents.of_resulting(found, version, record);
+        let behind_13 = !matches!(right.map(Refusal::number), Some(..=12));
+        let desk = record.is_some_and(|record| version == 2 && record[7] != 0);
+        match (self, right) {
+            (Slip::ResultRefusedAs22, Some(_)) => Some(Refusal::Movement),
+            (Slip::ResultRefusedWithoutPlace, Some(Refusal::Asset(_))) => Some(Refusal::Asset(0)),
+            (Slip::ResultRefusedWithoutPlace, Some(Refusal::SpecialistEntry(_))) => {
+                Some(Refusal::SpecialistEntry(0))
+            }
+            (Slip::BadRecordAtPlace1, Some(Refusal::Asset(_))) => Some(Refusal::Asset(1)),
+            (Slip::BadRecordAtTheLastPlace, Some(Refusal::Asset(place))) => {
+                Some(Refusal::Asset(place - 1))
+            }
+            (Slip::RecordWithACountAs22, Some(Refusal::MitigantCounts)) => Some(Refusal::Movement),
+            (Slip::RecordsCountOfTwoBytes, _) if desk && behind_13 => Some(Refusal::MitigantCounts),
+            _ => right,
+        }
+    }
+
+    fn book_fits(&self, buffer: usize, book: usize) -> bool {
+        match self {
+            Slip::BookBufferNotAsked => true,
+            Slip::BookBufferOfItsLengthRefused => buffer > book,
+            Slip::BookBufferOneByteShortPasses => buffer + 1 >= book,
+            _ => Documents.book_fits(buffer, book),
+        }
+    }
+
+    fn report_fits(&self, buffer: usize, report: usize) -> bool {
+        match self {
+            Slip::ReportBufferOfItsLengthRefused => buffer > report,
+            Slip::ReportBufferOneByteShortPasses => buffer + 1 >= report,
+            _ => Documents.report_fits(buffer, report),
+        }
+    }
+
+    fn first_of_movement(&self, found: [Option<Refusal>; 5]) -> Option<Refusal> {
+        let [standing, movement, result, book, report] = found;
+        let number = standing.map_or(0, Refusal::number);
+        let first = |found: [Option<Refusal>; 5]| Documents.first_of_movement(found);
+        match self {
+            Slip::StandingBookNotChecked if number >= 9 => {
+                first([None, movement, result, book, report])
+            }
+            Slip::MovementNotChecked => first([standing, None, result, book, report]),
+            Slip::MovementFirst => first([movement, standing, result, book, report]),
+            Slip::MovementBeforeTheBook if number >= 5 => movement.or(standing),
+            Slip::MovementBefore15 if number == 15 => movement.or(standing),
+            Slip::MovementAfterTheResult => first([standing, result, movement, book, report]),
+            Slip::MovementAfter16 => first([standing, result, book, report, movement]),
+            Slip::ShortBuffersBefore22 => first([standing, book, report, movement, result]),
+            Slip::BookShortBeforeTheResult => first([standing, movement, book, result, report]),
+            Slip::ReportShortBeforeTheResult => first([standing, movement, report, result, book]),
+            Slip::ReportShortBeforeTheBook if number >= 5 => report.or(standing),
+            _ => first(found),
+        }
+    }
+
+    fn changed(&self, found: [Option<Refusal>; 5]) -> [bool; 2] {
+        let [standing, movement, result, book, report] = found.map(|found| found.is_some());
+        let passes = !standing && !movement;
+        match self {
+            Slip::StandingBookNotChecked | Slip::MovementNotChecked => {
+                [self.first_of_movement(found).is_none(); 2]
+            }
+            Slip::BookStays => [false, Documents.changed(found)[1]],
+            Slip::BookChangedWhereTheReportIsShort if passes && !result && !book && report => {
+                [true, false]
+            }
+            Slip::BookChangedWhereTheResultIsRefused if passes && result => [true, false],
+            Slip::ReportWrittenWhereTheBookIsShort if passes && !result && book && !report => {
+                [false, true]
+            }
+            _ => Documents.changed(found),
+        }
+    }
+
+    fn buffer_after(&self, before: &[u8], old_length: usize, new: &[u8]) -> Vec<u8> {
+        let mut after = Documents.buffer_after(before, old_length, new);
+        let old_end = old_length.min(after.len());
+        match self {
+            Slip::OldEndCleared if new.len() < old_end => after[new.len()..old_end].fill(0),
+            Slip::RestCleared => after[new.len()..].fill(0),
+            Slip::RestMovedAlong => {
+                let rest = &before[old_end..];
+                after[new.len()..].iter_mut().zip(rest).for_each(|(to, &from)| *to = from);
+            }
+            _ => {}
+        }
+        after
+    }
+
+    fn reported<T>(&self, standing: T, resulting: T) -> T {
+        match self {
+            Slip::ReportOfTheStandingBook => standing,
+            _ => Documents.reported(standing, resulting),
+        }
+    }
+
+    fn values_after(&self, standing: &Values, resulting: &Values) -> Values {
+        match self {
+            Slip::LimitsOfTheStandingBook => standing.clone(),
+            _ => Documents.values_after(standing, resulting),
+        }
+    }
+
+    fn length_answered(&self, report: usize, book: usize) -> usize {
+        match self {
+            Slip::BooksLengthAnswered => book,
+            _ => Documents.length_answered(report, book),
+        }
+    }
+
     fn stressed(&self, asset: &Asset) -> i128 {
         match self {
             Slip::GreaterStressAlways => asset.insurance_stress.max(asset.combination_stress),
@@ -1151,6 +1485,7 @@ impl Rules for Slip {
             (Slip::HalfOfEachTreaty, _)
                 | (Slip::BilledByHalvesOfEachTreaty, TakenFor::Bills)
                 | (Slip::AnsweredByHalvesOfEachTreaty, TakenFor::Answers)
+                | (Slip::MovedByHalvesOfEachTreaty, TakenFor::Movements)
         );
         match self {
             _ if of_treaty => (asset, 0),
