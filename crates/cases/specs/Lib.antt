@@ -15,4 +15,5 @@ pub mod Buffer
 pub mod Desks
 pub mod Bills
 pub mod Headroom
+pub mod MovementAnswers
 pub mod Movements

@@ -1,5 +1,5 @@
 -- C-19, "Movements through the day": answers and both lent buffers, computed from bytes to bytes; and what a hasty reader would make of it, each reading told apart by a case.
--- Numbers and places in their order are in day.specs.MovingTable, the bytes of single movements in day.specs.MovementTable.
+-- Numbers and places in their order are in MovementAnswers, the bytes of single movements in day.specs.MovementTable.
 use mathlib.Core.Bool.{Bool, not, _&&_}
 use mathlib.Core.List.{List, [], _∷_, _++_}
 use Prim.Native.Nat.{ℕ, _+_, _*_, _-_}

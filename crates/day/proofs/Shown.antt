@@ -51,6 +51,7 @@ module _ (schedule : List ℕ) (m : Movement) (buffer : List ℕ) where
     pub stands : Accepted (bookIn buffer)
     pub can : possible (bookIn buffer) m ≡ true
     pub checked : bookChecks new ≡ Fine
+    pub book-room : length new ≤ length buffer
     pub report-room : length (reportOf schedule new) ≤ room
     pub size : l ≡ length (reportOf schedule new)
 
@@ -72,6 +73,7 @@ module _ (schedule : List ℕ) (m : Movement) (buffer : List ℕ) where
         stands = checks-accepted b (then-first (bookChecks b) c2 f1);
         can = unless-fine absent (possible b m) (then-first (refuse absent unless possible b m) c3 f2);
         checked = then-first (bookChecks new) c4 f3;
+        book-room = leb-true (length new) (length buffer) (fits .0);
         report-room = leb-true (length (reportOf schedule new)) room (fits .1);
         size = f .1;
       }

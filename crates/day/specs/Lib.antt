@@ -1,4 +1,3 @@
 pub mod Moving
 pub mod Day
 mod MovementTable
-mod MovingTable
