@@ -1,6 +1,6 @@
 -- A3, computed: T8's three groups of 600000000 in tier 3, each capped at 500000000; a tier that does not count.
-use Rattle.std.specs.Prelude.{◌≡◌, refl, ℕ}
-use Rattle.words.specs.Words.{◌=?◌, if◌then◌else◌, sum_of, count_from}
+use Rattle.std.specs.Prelude.{◌≡◌, refl, ℕ, if◌then◌else◌}
+use Rattle.words.specs.Words.{◌=?◌, sum_of, count_from}
 use Rattle.cascade.specs.Cascade.{tiers}
 use Rattle.a3.specs.A3.{a3_part, a3_sum_of}
 

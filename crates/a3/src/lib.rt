@@ -1,4 +1,6 @@
 // The A3 sum of a fund, out of the cells of exposures by group and column.
+#![tactic(auto)]
+
 ghost use Rattle.std.specs.Prelude.{◌≡◌, ℕ, ◌+◌, ◌*◌, ◌≤◌, ◌<◌, min, length, get_or};
 ghost use Rattle.words.specs.Words.{sum as sum_below};
 ghost use Rattle.wire.specs.Bytes.{M};

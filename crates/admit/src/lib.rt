@@ -1,4 +1,6 @@
 // Refusals 5 to 13 and 17, in their order: which byte strings are books.
+#![tactic(auto)]
+
 ghost use Rattle.std.specs.Prelude.{◌≡◌, ◌≤◌, length};
 ghost use Rattle.book.specs.Records.{header_size};
 ghost use Rattle.book.specs.Check.{counts_fit, amounts_fit, header_check, records_check, book_check};

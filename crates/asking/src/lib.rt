@@ -1,4 +1,6 @@
 // A list of questions, and what refusal 20 asks of it.
+#![tactic(auto)]
+
 ghost use Rattle.std.specs.Prelude.{◌≡◌, ◌*◌, ◌≤◌, length};
 ghost use Rattle.words.specs.Below.{all_below};
 ghost use Rattle.asking.specs.Questions.{question_size, most_questions, place_at, kind_at, good_question, good_list};

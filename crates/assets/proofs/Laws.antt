@@ -5,7 +5,7 @@ use mathlib.Core.List.{List}
 use mathlib.Core.Bool.{Bool, true, false}
 use Prim.Native.Nat.{ℕ, ◌*◌, ◌≤◌}
 use native.Mathlib.Omega.{arith}
-use Rattle.words.specs.Words.{if◌then◌else◌}
+use Rattle.std.specs.Prelude.{if◌then◌else◌}
 use Rattle.words.specs.Choice.{if-le}
 use Rattle.wire.specs.Bytes.{M}
 use Rattle.book.specs.declared.Asset.{Asset}
@@ -15,7 +15,7 @@ use Rattle.book.specs.Fields.{linked, reinsurance}
 use Rattle.book.specs.Book.{book_of}
 use Rattle.book.specs.Accepted.{Accepted, AssetFits}
 use Rattle.exposure.specs.Values.{net, of_reinsurance, over_reinsurance, reinsurance_values, all_netted, stressed_less_netted}
-use Rattle.exposure.specs.ValueLaws.{stressed-le, net-le}
+use Rattle.exposure.proofs.ValueLaws.{stressed-le, net-le}
 use Rattle.exposure.specs.Sums.{all_net, linked_net}
 use Rattle.assets.specs.Entered.{linked_of, less_netted}
 use Rattle.assets.proofs.Sums.{over_assets, over-holdings, sum-le, sum-most}

@@ -2,8 +2,8 @@
 --   column_in drawn_in   its remainder's column and whose half it draws on, out of its counterparty's two numbers
 --   linked_of less_netted with-asset with_treaty with_other   the sums with one asset more
 --   Shared TreatyFits Settled Enters Entered   what the functions ask and give
-use Rattle.std.specs.Prelude.{List, ◌≡◌, ℕ, ◌+◌, ◌-◌, ◌/◌, ◌%◌, ◌^◌, ◌≤◌, ◌<◌, length, get_or, set}
-use Rattle.words.specs.Words.{◌=?◌, if◌then◌else◌}
+use Rattle.std.specs.Prelude.{List, ◌≡◌, ℕ, ◌+◌, ◌-◌, ◌/◌, ◌%◌, ◌^◌, ◌≤◌, ◌<◌, length, get_or, set, if◌then◌else◌}
+use Rattle.words.specs.Words.{◌=?◌}
 use Rattle.wire.specs.Bytes.{M}
 use Rattle.book.specs.declared.Asset.{Asset}
 use Rattle.book.specs.Fields.{linked, reinsurance}

@@ -3,8 +3,7 @@
 --   marked     a table with the marks of some assets
 --   owner_by    the greatest mark up to a place
 --   Owned      it is the mark of each mitigant's own asset
-use Rattle.std.specs.Prelude.{List, ◌≡◌, ℕ, zero, suc, ◌+◌, ◌*◌, ◌<◌, max, get_or, set}
-use Rattle.words.specs.Words.{if◌then◌else◌}
+use Rattle.std.specs.Prelude.{List, ◌≡◌, ℕ, zero, suc, ◌+◌, ◌*◌, ◌<◌, max, get_or, set, if◌then◌else◌}
 use Rattle.book.specs.Records.{asset_at}
 use Rattle.book.specs.Fields.{reinsurance}
 

@@ -2,8 +2,7 @@
 --   rest_of      an asset's net where it is not linked: its exposures add up to this
 --   draws_on     the counterparty whose half it draws on, or 0 for nobody's
 --   treaty_rest  what it adds to its counterparty's nets
-use Rattle.std.specs.Prelude.{ℕ}
-use Rattle.words.specs.Words.{if◌then◌else◌}
+use Rattle.std.specs.Prelude.{ℕ, if◌then◌else◌}
 use Rattle.book.specs.declared.Counterparty.{Counterparty}
 use Rattle.book.specs.declared.Asset.{Asset}
 use Rattle.book.specs.Fields.{linked, reinsurance}

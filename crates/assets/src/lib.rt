@@ -1,6 +1,8 @@
 // An asset by itself: its share, the sums with it, whose half it draws on, its entries in the tables by place; and the halves of reinsurance by counterparty (C-18).
-ghost use Rattle.std.specs.Prelude.{◌≡◌, ◌+◌, ◌-◌, ◌/◌, ◌%◌, ◌^◌, ◌≤◌, ◌<◌, length};
-ghost use Rattle.words.specs.Words.{◌=?◌, if◌then◌else◌};
+#![tactic(auto)]
+
+ghost use Rattle.std.specs.Prelude.{◌≡◌, ◌+◌, ◌-◌, ◌/◌, ◌%◌, ◌^◌, ◌≤◌, ◌<◌, length, if◌then◌else◌};
+ghost use Rattle.words.specs.Words.{◌=?◌};
 ghost use Rattle.wire.specs.Bytes.{M};
 ghost use Rattle.columns.specs.Column.{digit, age_of};
 ghost use Rattle.assets.specs.Entered.{Shared, TreatyFits, with_treaty, with_other, Settled};
@@ -9,7 +11,7 @@ ghost use Rattle.assets.specs.Halves.{Halved};
 use book::Asset;
 
 // The sums over all assets: net, net of what is linked; over reinsurance: value, netted, and what each stressed value has above its netted.
-#[derive(Drop)]
+#[derive(Clone, Copy)]
 pub struct Values {
     pub all: u64,
     pub linked: u64,
@@ -19,7 +21,7 @@ pub struct Values {
 }
 
 // An asset's net, the same where it is linked, and where it is not.
-#[derive(Drop)]
+#[derive(Clone, Copy)]
 pub struct Share {
     pub net: u64,
     pub linked: u64,

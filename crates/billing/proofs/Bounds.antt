@@ -4,7 +4,8 @@ use mathlib.Core.List.{List}
 use mathlib.Core.Path.{◌≡◌}
 use Prim.Native.Nat.{ℕ, ◌+◌, ◌*◌, ◌≤◌}
 use native.Mathlib.Omega.{arith}
-use Rattle.words.specs.Words.{◌=?◌, if◌then◌else◌, sum_of, sum}
+use Rattle.std.specs.Prelude.{if◌then◌else◌}
+use Rattle.words.specs.Words.{◌=?◌, sum_of, sum}
 use Rattle.words.specs.Sums.{sum-le, sum-count, sum-most}
 use Rattle.wire.specs.Bytes.{M}
 use Rattle.cascade.specs.Cascade.{tiers, excess_sum}

@@ -26,7 +26,7 @@ use Rattle.exposure.specs.declared.Exposure.{Exposure}
 use Rattle.exposure.specs.Parts.{exposures}
 use Rattle.exposure.specs.Tier.{tier_of}
 use Rattle.exposure.specs.Sums.{amount_of, exposure_of}
-use Rattle.columns.specs.ColumnLaws.{free-column}
+use Rattle.columns.proofs.ColumnLaws.{free-column}
 use Rattle.parties.specs.Rows.{tops_to, row_of}
 use Rattle.parties.specs.RowLaws.{tops-le, lower}
 use Rattle.cells.specs.Cells.{cells_from}
@@ -36,7 +36,7 @@ use Rattle.fund.specs.Figures.{limits_of, order, fund_of}
 use Rattle.fund.specs.Fund.{Exposed, RatedAs}
 use Rattle.report.specs.Answer.{fund_in}
 use Rattle.desks.specs.Pass.{line_cell}
-use Rattle.desks.specs.LineLaws.{InBook, row_number}
+use Rattle.desks.proofs.LineLaws.{InBook, row_number}
 
 module _ {schedule b : List ℕ} {groups : ℕ} {f : made.Fund} {cells : List ℕ} (acc : Accepted b) (eg : groups ≡ tops_to b (C b)) (r : RatedAs schedule b f) (x : Exposed b groups cells) where
   -- a row is at most all of them

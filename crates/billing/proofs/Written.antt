@@ -8,7 +8,8 @@ use lib.Dec.{eqb, ltb}
 use lib.ListN.{length, get_or, set, drop, replicate, length-set, length-replicate, get_or-eq_default}
 use lib.Seq.{get_or-set_same, get_or-set_other}
 use borrow.Author.Tests.{eqb-true, eqb-false, ltb-true, ltb-false}
-use Rattle.words.specs.Words.{if◌then◌else◌, sum, All}
+use Rattle.std.specs.Prelude.{if◌then◌else◌}
+use Rattle.words.specs.Words.{sum, All}
 use Rattle.words.specs.Sums.{sum_same, all_map}
 use Rattle.words.specs.Ranges.{sum-within}
 use Rattle.wire.specs.Bytes.{placed}
@@ -44,7 +45,7 @@ use Rattle.report.proofs.Written.{report-charge}
 use Rattle.desks.specs.BookLines.{exposure_line}
 use Rattle.standing.specs.Standing.{Stood}
 use Rattle.desks.specs.Pass.{line_cell, lines_at, Lined, Served}
-use Rattle.desks.specs.LineLaws.{InBook, line-in, line_small, cells-apart, all_lines}
+use Rattle.desks.proofs.LineLaws.{InBook, line-in, line_small, cells-apart, all_lines}
 use Rattle.desks.proofs.BookLaws.{lines-excess, desk-few, book-lines}
 use Rattle.billing.specs.Billed.{exposure_lines_in, excess_in, bills_of, AddUp, Billed}
 use Rattle.billing.specs.Tables.{Excesses}

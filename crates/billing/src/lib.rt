@@ -1,4 +1,6 @@
 // The bills of a fund, or refusals 19 and 16.
+#![tactic(auto)]
+
 ghost use Rattle.std.specs.Prelude.{◌≡◌, replicate};
 ghost use Rattle.bills.specs.Bills.{desk_count};
 ghost use Rattle.fund.specs.Tables.{FundTables};

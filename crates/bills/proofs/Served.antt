@@ -3,10 +3,11 @@
 use mathlib.Core.Bool.{Bool, true, false}
 use mathlib.Core.List.{List, [], ◌∷◌, ◌++◌}
 use mathlib.Core.Path.{◌≡◌, refl, ap, ◌∙◌}
-use Prim.Native.Nat.{ℕ, ◌+◌, ◌-◌, ◌≤◌, ◌<◌}
+use Prim.Native.Nat.{ℕ, ◌+◌, ◌-◌, ◌≤◌}
 use native.Mathlib.Omega.{arith}
 use borrow.Author.Tests.{eqb-true}
-use Rattle.words.specs.Words.{◌<?◌, ◌=?◌, if◌then◌else◌, sum_of, All}
+use Rattle.std.specs.Prelude.{if◌then◌else◌}
+use Rattle.words.specs.Words.{◌<?◌, ◌=?◌, sum_of, All}
 use Rattle.words.specs.Choice.{both, if-le}
 use Rattle.cascade.proofs.Fund.{excess-within}
 use Rattle.figures.specs.Fund.{Fund}

@@ -8,7 +8,8 @@ use lib.Dec.{eqb}
 use lib.ListN.{length, get_or, set, length-set}
 use lib.Seq.{get_or-set_same, get_or-set_other}
 use borrow.Author.Tests.{eqb-true, eqb-false}
-use Rattle.words.specs.Words.{◌=?◌, if◌then◌else◌, sum_of, All}
+use Rattle.std.specs.Prelude.{if◌then◌else◌}
+use Rattle.words.specs.Words.{◌=?◌, sum_of, All}
 use Rattle.words.specs.Sums.{all_map, all_both}
 use Rattle.bills.specs.Lines.{ExposureLine, is_in, served, unserved, after, excess_lines}
 use Rattle.bills.specs.Bills.{amount_of_desk}

@@ -4,7 +4,8 @@ use mathlib.Core.Path.{◌≡◌, ◌∙◌}
 use Prim.Native.Nat.{ℕ, ◌+◌, ◌-◌, ◌≤◌, ◌<◌}
 use native.Mathlib.Omega.{arith}
 use borrow.Author.Tests.{eq-eqb, eqb-true}
-use Rattle.words.specs.Words.{◌=?◌, if◌then◌else◌, sum}
+use Rattle.std.specs.Prelude.{if◌then◌else◌}
+use Rattle.words.specs.Words.{◌=?◌, sum}
 use Rattle.words.specs.Ranges.{sum-here}
 use Rattle.figures.proofs.Sums.{sum-none, sum_one, none_of}
 

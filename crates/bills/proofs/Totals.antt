@@ -6,7 +6,8 @@ use native.Mathlib.Nat.{add-mul}
 use native.Mathlib.Numerals.{add-one}
 use native.Mathlib.Omega.{arith}
 use borrow.Author.Tests.{lt-ltb, le-ltb}
-use Rattle.words.specs.Words.{◌=?◌, if◌then◌else◌, sum_of, sum, All}
+use Rattle.std.specs.Prelude.{if◌then◌else◌}
+use Rattle.words.specs.Words.{◌=?◌, sum_of, sum, All}
 use Rattle.words.specs.Sums.{sum_same, sum-add, sum-swap, sum-agree, all_map}
 use Rattle.words.specs.Ranges.{sum-here}
 use Rattle.cascade.specs.Cascade.{excess_sum}

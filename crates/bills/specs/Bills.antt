@@ -3,8 +3,8 @@
 --   amount_of_desk desk_excess        the amounts of a desk's lines; the excess of a desk
 --   cost_of bill_of                  the cost of the running excess; what a desk is billed
 --   bill_bytes                      all bills as bytes
-use Rattle.std.specs.Prelude.{List, map, ℕ, ◌+◌, ◌*◌, ◌-◌, ◌/◌}
-use Rattle.words.specs.Words.{◌=?◌, if◌then◌else◌, sum_of, sum, count_from}
+use Rattle.std.specs.Prelude.{List, map, ℕ, ◌+◌, ◌*◌, ◌-◌, ◌/◌, if◌then◌else◌}
+use Rattle.words.specs.Words.{◌=?◌, sum_of, sum, count_from}
 use Rattle.wire.specs.Amounts.{amounts_bytes}
 use Rattle.figures.specs.Fund.{Fund}
 use Rattle.bills.specs.Lines.{ExposureLine, stands_in, excess_lines}

@@ -1,6 +1,6 @@
 -- Bills, computed on a fund of two groups: two tiers of the first in excess, an amount without limit, and an A3 excess.
-use Rattle.std.specs.Prelude.{List, [], ◌∷◌, map, ◌≡◌, refl, ℕ}
-use Rattle.words.specs.Words.{◌=?◌, if◌then◌else◌, sum_of, sum}
+use Rattle.std.specs.Prelude.{List, [], ◌∷◌, map, ◌≡◌, refl, ℕ, if◌then◌else◌}
+use Rattle.words.specs.Words.{◌=?◌, sum_of, sum}
 use Rattle.cascade.specs.Cascade.{by_tier, by_limit, ranks, insert, ranked, next, standing, excess, excess_sum}
 use Rattle.figures.specs.Fund.{Fund}
 use Rattle.figures.specs.Report.{group_excess, charge}

@@ -4,8 +4,8 @@
 --   tier_excess stands_in       the excess of a group's tier, and what stands there
 --   served unserved after     one line, where `still` says what is still to be given, by group and tier
 --   excess_lines               the lines, each with its excess in the place of its amount
-use Rattle.std.specs.Prelude.{Bool, ◌&&◌, List, [], ◌∷◌, ℕ, ◌-◌, min}
-use Rattle.words.specs.Words.{◌<?◌, ◌=?◌, if◌then◌else◌, sum_of}
+use Rattle.std.specs.Prelude.{Bool, ◌&&◌, List, [], ◌∷◌, ℕ, ◌-◌, min, if◌then◌else◌}
+use Rattle.words.specs.Words.{◌<?◌, ◌=?◌, sum_of}
 use Rattle.figures.specs.Fund.{Fund}
 use Rattle.figures.specs.Report.{excess_of}
 

@@ -1,4 +1,6 @@
 // Capital cost per desk: one exposure line given what it may, and the desks' bills as bytes.
+#![tactic(auto)]
+
 ghost use Rattle.std.specs.Prelude.{◌≡◌, ◌+◌, ◌-◌, ◌≤◌, ◌<◌, ◌^◌, length, get_or};
 ghost use Rattle.words.specs.Words.{sum};
 ghost use Rattle.wire.specs.Bytes.{placed};

@@ -1,10 +1,10 @@
 -- A book that refusals 5 to 13 and 17 let pass is an accepted one.
 --   header-fits   what refusals 6 to 9 leave of a header
 --   accepted      what refusals 5 to 13 and 17 leave of a book
-use Rattle.std.specs.Prelude.{Bool, true, false, ◌||◌, List, [], ◌∷◌, ◌≡◌, ℕ, ◌+◌, ◌-◌, ◌/◌, ◌%◌, ◌≤◌, ◌<◌, ℤ, pos, negsuc, neg_ℤ, length}
+use Rattle.std.specs.Prelude.{Bool, true, false, ◌||◌, List, [], ◌∷◌, ◌≡◌, ℕ, ◌+◌, ◌-◌, ◌/◌, ◌%◌, ◌≤◌, ◌<◌, ℤ, pos, negsuc, neg_ℤ, length, if◌then◌else◌}
 use Rattle.std.proofs.Common.{arith, leb-true, ltb-true, eqb-true}
 use Rattle.std.specs.Int.Signed.{le_z}
-use Rattle.words.specs.Words.{◌≤?◌, ◌<?◌, ◌=?◌, if◌then◌else◌}
+use Rattle.words.specs.Words.{◌≤?◌, ◌<?◌, ◌=?◌}
 use Rattle.words.specs.Choice.{both, each-true, never}
 use Rattle.wire.specs.Bytes.{M, byte_at, u16_at}
 use Rattle.refusal.specs.declared.Checked.TheVariants.{Fine}

@@ -1,6 +1,6 @@
 -- A book as its records: each asset with its own mitigants.
-use Rattle.std.specs.Prelude.{List, [], ◌∷◌, ℕ, zero, suc, ◌+◌, ℤ}
-use Rattle.words.specs.Words.{◌<?◌, ◌=?◌, if◌then◌else◌}
+use Rattle.std.specs.Prelude.{List, [], ◌∷◌, ℕ, zero, suc, ◌+◌, ℤ, if◌then◌else◌}
+use Rattle.words.specs.Words.{◌<?◌, ◌=?◌}
 use Rattle.book.specs.declared.Counterparty.{Counterparty}
 use Rattle.book.specs.declared.Asset.{Asset}
 use Rattle.book.specs.declared.Mitigant.{Mitigant}

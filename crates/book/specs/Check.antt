@@ -5,9 +5,9 @@
 --   entry_allowed                                 whether an asset's entry may stand in a book that is a specialist fund's or not
 --   header_check records_check book_check           the refusals 6 to 9, 10 to 13, and all with 17; counterparties_check, assets_check, mitigants_check, counts_check are 10 to 13
 --   specialist_check                              17
-use Rattle.std.specs.Prelude.{Bool, not, ◌&&◌, ◌||◌, List, ℕ, ◌+◌, ◌/◌, ◌%◌, pos, neg_ℤ, length}
+use Rattle.std.specs.Prelude.{Bool, not, ◌&&◌, ◌||◌, List, ℕ, ◌+◌, ◌/◌, ◌%◌, pos, neg_ℤ, length, if◌then◌else◌}
 use Rattle.std.specs.Int.Signed.{le_z}
-use Rattle.words.specs.Words.{◌≤?◌, ◌<?◌, ◌=?◌, if◌then◌else◌, sum_of}
+use Rattle.words.specs.Words.{◌≤?◌, ◌<?◌, ◌=?◌, sum_of}
 use Rattle.wire.specs.Bytes.{M, byte_at, u16_at}
 use Rattle.refusal.specs.declared.Checked.{Checked}
 use Rattle.refusal.specs.declared.Refusal.{Refusal}

@@ -9,8 +9,8 @@
 --   count_mask assets_of                                   where the assets stand, for the code
 --   asset_from                                            the asset whose record starts at a byte
 --   counterparty_at asset_at mitigant_at                    the record of a place
-use Rattle.std.specs.Prelude.{Bool, List, ℕ, ◌+◌, ◌*◌, ◌-◌, ◌/◌, ◌%◌, ℤ}
-use Rattle.words.specs.Words.{◌=?◌, if◌then◌else◌}
+use Rattle.std.specs.Prelude.{Bool, List, ℕ, ◌+◌, ◌*◌, ◌-◌, ◌/◌, ◌%◌, ℤ, if◌then◌else◌}
+use Rattle.words.specs.Words.{◌=?◌}
 use Rattle.wire.specs.Bytes.{byte_at, u16_at, u64_at, i64_at}
 use Rattle.book.specs.declared.Kind.{Kind}
 use Rattle.book.specs.declared.Kind.TheVariants.{Other, Bank, HomeGovernment, ProvincialGovernment, LifeCompany}

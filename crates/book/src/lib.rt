@@ -1,4 +1,6 @@
 // A book's records: their types, the records out of the bytes, and the questions that document 01 has words for. The header's bytes are `header`'s.
+#![tactic(auto)]
+
 ghost use Rattle.std.specs.Prelude.{◌≡◌, ◌+◌, ◌*◌, ◌/◌, ◌%◌, ◌<◌, ◌≤◌, length};
 ghost use Rattle.wire.specs.Bytes.{bit};
 ghost use Rattle.book.specs.Records.{header_size, counterparty_size, asset_size, mitigant_size, assets_start, mitigants_start, counterparty_start, kind_of, count_mask, assets_of, counterparty_at, asset_from, asset_at, mitigant_at};
@@ -26,7 +28,7 @@ pub const MOST_ASSETS: usize = 900;
 pub const MOST_MITIGANTS: usize = 1500;
 
 // The kind of a counterparty.
-#[derive(Drop)]
+#[derive(Clone, Copy)]
 pub enum Kind {
     Other,
     Bank,
@@ -36,7 +38,7 @@ pub enum Kind {
 }
 
 // What a header says after its mark and version.
-#[derive(Drop)]
+#[derive(Clone, Copy)]
 pub struct Header {
     pub counterparties: u16,
     pub assets: u16,
@@ -47,7 +49,7 @@ pub struct Header {
     pub specialist: bool,
 }
 
-#[derive(Drop)]
+#[derive(Clone, Copy)]
 pub struct Counterparty {
     pub parent: u16,
     pub kind: Kind,
@@ -55,7 +57,7 @@ pub struct Counterparty {
     pub flags: u8,
 }
 
-#[derive(Drop)]
+#[derive(Clone, Copy)]
 pub struct Asset {
     pub kind: u8,
     pub flags: u8,
@@ -72,13 +74,13 @@ pub struct Asset {
 }
 
 // Where the assets stand: the first one's start, and the mask of an asset's bytes 6 and 7 that leaves its count of mitigants.
-#[derive(Drop)]
+#[derive(Clone, Copy)]
 pub struct Assets {
     pub start: usize,
     pub counts: u16,
 }
 
-#[derive(Drop)]
+#[derive(Clone, Copy)]
 pub struct Mitigant {
     pub form: u8,
     pub flags: u8,

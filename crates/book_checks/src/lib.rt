@@ -1,4 +1,6 @@
 // Refusals 5 to 13, 17, 14 and 15 of a book, in this order.
+#![tactic(auto)]
+
 ghost use Rattle.std.specs.Prelude.{◌≡◌};
 ghost use Rattle.book_checks.specs.Checks.{book_checks};
 

@@ -1,4 +1,6 @@
 // Refusals 14 and 15 of a book by itself.
+#![tactic(auto)]
+
 ghost use Rattle.std.specs.Prelude.{◌≡◌};
 ghost use Rattle.book.specs.Book.{book_of};
 ghost use Rattle.book.specs.Accepted.{Accepted};

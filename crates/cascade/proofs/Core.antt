@@ -14,7 +14,8 @@ use lib.Dec.{eqb, ltb}
 use borrow.Author.Tests.{eq-eqb, ne_eqb, lt-ltb, le-ltb}
 use Rattle.cascade.specs.Cascade.{next, standing, left, excess, standing_after}
 use Rattle.cascade.specs.Cut.{Ordered, stands, taken, Feasible, Optimal}
-use Rattle.words.specs.Words.{if◌then◌else◌, sum_of, sum, All}
+use Rattle.std.specs.Prelude.{if◌then◌else◌}
+use Rattle.words.specs.Words.{sum_of, sum, All}
 use Rattle.words.specs.Sums.{all_map, all_both, sum-add}
 use Rattle.cascade.proofs.Lists.{sum_of-zero}
 

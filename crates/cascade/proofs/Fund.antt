@@ -10,7 +10,8 @@ use borrow.Author.Tests.{lt-ltb, le-ltb}
 use lib.Dec.{ltb}
 use Rattle.cascade.specs.Cascade.{ranked, standing, left, excess, standing_after, excess_sum}
 use Rattle.cascade.specs.Cut.{stands, taken, Optimal, FundOptimal, Ordered}
-use Rattle.words.specs.Words.{if◌then◌else◌, sum}
+use Rattle.std.specs.Prelude.{if◌then◌else◌}
+use Rattle.words.specs.Words.{sum}
 use Rattle.words.specs.Sums.{sum-le, sum_same}
 use Rattle.cascade.proofs.Core.{optimal, optimal-only, stands_after, standing-within}
 use Rattle.cascade.proofs.Ranking.{ranked-sorted, ranked-lists}

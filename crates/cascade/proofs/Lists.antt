@@ -6,7 +6,8 @@ use native.Mathlib.Omega.{arith}
 use native.Mathlib.Decide.{dec_lt}
 use borrow.Author.Tests.{eq-eqb, ne_eqb}
 use lib.ListN.{length, get_or}
-use Rattle.words.specs.Words.{◌=?◌, if◌then◌else◌, sum_of, sum, All}
+use Rattle.std.specs.Prelude.{if◌then◌else◌}
+use Rattle.words.specs.Words.{◌=?◌, sum_of, sum, All}
 
 pub sum_of-zero : (f : ℕ → ℕ) (ks : List ℕ) → All (λ k. f k ≡ 0) ks → sum_of f ks ≡ 0
 unfolding sum_of

@@ -2,8 +2,8 @@
 -- asked of a ranking (Ordered).
 -- There are n tiers. le says whether a tier ranks at or below another, L is a tier's limit, e the group's exposure in it, cut what is cut of it.
 -- The tiers of a group are those where e is above 0; what a cut says of any other tier counts nowhere.
-use Rattle.std.specs.Prelude.{Bool, true, false, ◌≡◌, ℕ, ◌-◌, ◌≤◌, ◌<◌}
-use Rattle.words.specs.Words.{◌<?◌, if◌then◌else◌, sum}
+use Rattle.std.specs.Prelude.{Bool, true, false, ◌≡◌, ℕ, ◌-◌, ◌≤◌, ◌<◌, if◌then◌else◌}
+use Rattle.words.specs.Words.{◌<?◌, sum}
 
 -- le ranks the tiers one above the other, and limits do not fall along it:
 -- self     a tier ranks at or below itself

@@ -1,6 +1,6 @@
 -- "Mitigants (P31 to P43)": which are recognised, what a covered part becomes, how much is covered, linked assets.
-use Rattle.std.specs.Prelude.{Bool, List, [], ◌∷◌, ◌++◌, ℕ, ◌+◌, T, length}
-use Rattle.words.specs.Words.{◌<?◌, if◌then◌else◌, each_of, every}
+use Rattle.std.specs.Prelude.{Bool, List, [], ◌∷◌, ◌++◌, ℕ, ◌+◌, T, length, if◌then◌else◌}
+use Rattle.words.specs.Words.{◌<?◌, each_of, every}
 use Rattle.book.specs.Build.{counterparty, asset, mitigant}
 use Rattle.book.specs.Book.{book_of}
 use Rattle.exposure.specs.declared.Exposure.{Exposure}

@@ -1,7 +1,7 @@
 -- C-17, "Ties before rounding": lines of funds whose limits are equal in cents and not before they are rounded, each beside what another reading of the
 -- ranking gives.
-use Rattle.std.specs.Prelude.{Bool, not, ◌&&◌, List, [], ◌∷◌, ◌++◌, ℕ, ◌-◌, T, set, length}
-use Rattle.words.specs.Words.{◌≤?◌, ◌<?◌, ◌=?◌, if◌then◌else◌, every}
+use Rattle.std.specs.Prelude.{Bool, not, ◌&&◌, List, [], ◌∷◌, ◌++◌, ℕ, ◌-◌, T, set, length, if◌then◌else◌}
+use Rattle.words.specs.Words.{◌≤?◌, ◌<?◌, ◌=?◌, every}
 use Rattle.wire.specs.Bytes.{M}
 use Rattle.schedule.specs.declared.Schedule.{Schedule}
 use Rattle.schedule.specs.Schedule.{schedule_of, schedule_bytes}

@@ -8,7 +8,8 @@ use lib.Dec.{eqb}
 use lib.ListN.{length, get_or, set, length-set}
 use lib.Seq.{get_or-set_same, get_or-set_other}
 use borrow.Author.Tests.{eqb-true, eqb-false}
-use Rattle.words.specs.Words.{◌=?◌, if◌then◌else◌, sum}
+use Rattle.std.specs.Prelude.{if◌then◌else◌}
+use Rattle.words.specs.Words.{◌=?◌, sum}
 use Rattle.cascade.specs.Cascade.{tiers}
 use Rattle.rows.specs.Rows.{columns, no_limit_column, bill_column, a3_columns}
 use Rattle.columns.specs.Column.{a3_column, column_by}

@@ -5,10 +5,10 @@
 --   gate-le amount-le          what passes a test is no more than all
 --   amount-none                where nothing passes
 --   sum-join                   two sums together, the second only where a test fails
-use Rattle.std.specs.Prelude.{Bool, true, false, List, [], ◌∷◌, ◌≡◌, refl, ℕ, ◌+◌, ◌≤◌, ◌<◌, eqb, length, get_or, set}
+use Rattle.std.specs.Prelude.{Bool, true, false, List, [], ◌∷◌, ◌≡◌, refl, ℕ, ◌+◌, ◌≤◌, ◌<◌, eqb, length, get_or, set, if◌then◌else◌}
 use Rattle.std.proofs.Common.{sym, ◌∙◌, arith, length-set, get_or-set_same, get_or-set_other}
 use borrow.Author.Tests.{eq-eqb, eqb-true, eqb-false}
-use Rattle.words.specs.Words.{◌=?◌, if◌then◌else◌, sum_of}
+use Rattle.words.specs.Words.{◌=?◌, sum_of}
 use Rattle.words.specs.Choice.{if-le}
 use Rattle.words.specs.Sums.{sum-most}
 use Rattle.exposure.specs.declared.Exposure.{Exposure}

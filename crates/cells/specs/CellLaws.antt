@@ -21,7 +21,7 @@ use Rattle.exposure.specs.Parts.{covered_part, remainder}
 use Rattle.exposure.specs.Tier.{tier_by, lower_tier, reinsurance_tier, ungraded_tier}
 use Rattle.rows.specs.Rows.{columns}
 use Rattle.columns.specs.Column.{column_of}
-use Rattle.columns.specs.ColumnLaws.{column-le}
+use Rattle.columns.proofs.ColumnLaws.{column-le}
 use Rattle.parties.specs.Rows.{tops_to, row_of, Parties}
 use Rattle.parties.specs.RowLaws.{top-self, same_row, row_small}
 use Rattle.assets.specs.Shares.{rest_of}

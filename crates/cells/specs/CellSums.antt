@@ -7,10 +7,10 @@
 --   bills-sum free-sum          W, and what has no limit
 --   group-column                a group's cell of a column
 --   tier-sum a3-sum             folded onto the tier: the group's exposure there; what counts for A3
-use Rattle.std.specs.Prelude.{Bool, true, false, not, ◌&&◌, List, [], ◌≡◌, refl, ℕ, ◌+◌, ◌*◌, ◌-◌, ◌≤◌, ◌<◌, get_or}
+use Rattle.std.specs.Prelude.{Bool, true, false, not, ◌&&◌, List, [], ◌≡◌, refl, ℕ, ◌+◌, ◌*◌, ◌-◌, ◌≤◌, ◌<◌, get_or, if◌then◌else◌}
 use Rattle.std.proofs.Common.{sym, ap₂, ◌∙◌, arith}
 use borrow.Author.Tests.{eqb-true, ltb-true}
-use Rattle.words.specs.Words.{◌=?◌, ◌<?◌, if◌then◌else◌, sum_of, sum, All}
+use Rattle.words.specs.Words.{◌=?◌, ◌<?◌, sum_of, sum, All}
 use Rattle.words.specs.Choice.{both, by-test}
 use Rattle.words.specs.Below.{all_below, below}
 use Rattle.words.specs.Sums.{sum_same, sum-swap, sum-once, sum-agree, sum-each-same, all_map}
@@ -25,7 +25,7 @@ use Rattle.exposure.specs.Tier.{tier_of, no_limit}
 use Rattle.exposure.specs.Sums.{amount_of, exposure_of, a3_exposure_of, W}
 use Rattle.rows.specs.Rows.{columns, no_limit_column, bill_column, a3_columns}
 use Rattle.columns.specs.Column.{a3_tiers, a3_column, column_by, tier_in}
-use Rattle.columns.specs.ColumnLaws.{column-le, tier-in, bill-column, free-column, a3-column}
+use Rattle.columns.proofs.ColumnLaws.{column-le, tier-in, bill-column, free-column, a3-column}
 use Rattle.parties.specs.Rows.{tops_to, row_of}
 use Rattle.parties.specs.RowLaws.{row_small}
 use Rattle.covering.specs.ByPlace.{parts_at, rests_at}

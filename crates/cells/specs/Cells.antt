@@ -7,8 +7,8 @@
 --   FoldedRow FoldedRows         a row behind the fold, and the rows of some groups
 --   FoldFits Folded              what the fold asks for and promises
 --   Posted                       the cells behind the posting
-use Rattle.std.specs.Prelude.{true, false, ◌&&◌, List, ◌≡◌, ℕ, ◌+◌, ◌*◌, ◌≤◌, ◌<◌, ◌^◌, length, get_or}
-use Rattle.words.specs.Words.{◌=?◌, if◌then◌else◌, sum_of, sum}
+use Rattle.std.specs.Prelude.{true, false, ◌&&◌, List, ◌≡◌, ℕ, ◌+◌, ◌*◌, ◌≤◌, ◌<◌, ◌^◌, length, get_or, if◌then◌else◌}
+use Rattle.words.specs.Words.{◌=?◌, sum_of, sum}
 use Rattle.cascade.specs.Cascade.{tiers}
 use Rattle.book.specs.Records.{C, N, K, counterparty_at, mitigant_at}
 use Rattle.book.specs.Book.{book_of, parent_of, top_of}

@@ -3,13 +3,13 @@
 --   exposure-none a3-none   such a place heads no group
 --   row-tier row-a3         the row of a group's number holds the exposures of the group that its top place heads
 --   whole_le group-le rows-le   all exposures of the groups in the tiers are at most 900 × M, and so are those of one
-use Rattle.std.specs.Prelude.{Bool, true, false, ◌&&◌, ◌≡◌, length, get_or, set}
+use Rattle.std.specs.Prelude.{Bool, true, false, ◌&&◌, ◌≡◌, length, get_or, set, if◌then◌else◌}
 use mathlib.Core.List.{List}
 use Rattle.std.proofs.Math.Path.{refl}
 use Rattle.std.proofs.Common.{sym, ap, ap₂, ◌∙◌, pos_of_ne-zero, arith, get_or-set_same, get_or-set_other, eqb-true, ne_eqb}
 use Prim.Native.Nat.{ℕ, zero, suc, ◌+◌, ◌*◌, ◌-◌, ◌≤◌, ◌<◌}
 use Rattle.std.proofs.lemmas.Bool.{eqb-false}
-use Rattle.words.specs.Words.{◌=?◌, if◌then◌else◌, sum_of, sum, count_from}
+use Rattle.words.specs.Words.{◌=?◌, sum_of, sum, count_from}
 use Rattle.words.specs.Choice.{never}
 use Rattle.words.specs.Sums.{sum-le, sum_same, sum-count, sum-most, sum-swap, sum-once, length-count}
 use Rattle.wire.specs.Bytes.{M}

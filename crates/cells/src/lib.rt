@@ -1,4 +1,6 @@
 // A table of exposures by group and column: the columns that count for W and for A3 folded onto their tiers'. `posting` fills it.
+#![tactic(auto)]
+
 ghost use Rattle.std.specs.Prelude.{◌≡◌, ℕ, ◌+◌, ◌≤◌, ◌<◌, ◌^◌, length, get_or, set};
 ghost use Rattle.cascade.specs.Cascade.{tiers};
 ghost use Rattle.rows.specs.Rows.{columns};
@@ -17,7 +19,7 @@ const BILLS: usize = TIERS + 1;
 pub const A3: usize = TIERS + 2;
 
 // W, and the exposures that have no limit.
-#[derive(Drop)]
+#[derive(Clone, Copy)]
 pub struct Sums {
     pub w: u64,
     pub free: u64,

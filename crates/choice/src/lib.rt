@@ -1,6 +1,7 @@
 // Choices as calls: one of two values by a test, the greater and the lesser of two amounts, a difference that stops at 0.
-ghost use Rattle.std.specs.Prelude.{◌≡◌, ◌-◌, ◌≤◌, min, max};
-ghost use Rattle.words.specs.Words.{if◌then◌else◌};
+#![tactic(auto)]
+
+ghost use Rattle.std.specs.Prelude.{◌≡◌, ◌-◌, ◌≤◌, min, max, if◌then◌else◌};
 
 pub fn amount(t: bool, a: u64, b: u64) -> u64
     ensures { result ≡ (if t then a else b) }

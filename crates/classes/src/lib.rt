@@ -1,10 +1,13 @@
 // Two numbers of a counterparty, looked up once by its class: the columns of all exposures to it, and its terms as a reinsurer and a guarantor.
+#![tactic(auto)]
+
 ghost use Rattle.std.specs.Prelude.{◌≡◌, ◌<◌};
 ghost use Rattle.columns.specs.Column.{word_at, word_of, terms_at, terms_of};
 
 use book::Counterparty;
 
 // The word of a class. Each eight are one kind, graded or not, by their flags: in turn not related and related, which only a life company's go by.
+#[tactic(auto, unfolding(columns::specs::Column::word_at))]
 fn word_at(class: u64) -> u64
     requires { class < 80 }
     ensures { result ≡ word_at class }
@@ -105,6 +108,7 @@ fn word_at(class: u64) -> u64
 }
 
 // The terms of a class. Each eight by their flags: none, related, affiliate, both; then the same with approval under A1(e).
+#[tactic(auto, unfolding(columns::specs::Column::terms_at))]
 fn terms_at(class: u64) -> u64
     requires { class < 80 }
     ensures { result ≡ terms_at class }

@@ -1,9 +1,9 @@
 -- A counterparty is like the representative of its class in all that its columns and terms depend on.
 --   of_class                                 the representative
 --   class-le class-kind class-graded class-flags   a class is below 80 and says kind, whether graded, and flags
-use Rattle.std.specs.Prelude.{Bool, true, false, ◌≡◌, refl, ℕ, ◌+◌, ◌*◌, ◌/◌, ◌%◌, ◌≤◌, ◌<◌}
+use Rattle.std.specs.Prelude.{Bool, true, false, ◌≡◌, refl, ℕ, ◌+◌, ◌*◌, ◌/◌, ◌%◌, ◌≤◌, ◌<◌, if◌then◌else◌}
 use Rattle.std.proofs.Common.{arith, eqb-true}
-use Rattle.words.specs.Words.{◌=?◌, if◌then◌else◌}
+use Rattle.words.specs.Words.{◌=?◌}
 use Rattle.words.specs.Below.{all_below, below}
 use Rattle.wire.specs.Bytes.{bit}
 use Rattle.book.specs.declared.Kind.{Kind}

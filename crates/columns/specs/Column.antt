@@ -8,8 +8,8 @@
 --   digit_of                              the digit of what a form of mitigant covers
 --   terms_at terms_of                      the columns of reinsurance, `age_of` saying which; then a bit, `halved`; then `trust_of`
 --   age_at stage_of age_of halved trust_of   entry and months together; whether half may be covered; how far its promises count
-use Rattle.std.specs.Prelude.{Bool, not, ◌&&◌, List, [], ◌∷◌, ◌≡◌, ℕ, ◌+◌, ◌*◌, ◌-◌, ◌/◌, ◌%◌, ◌^◌, ◌<◌, length, get_or}
-use Rattle.words.specs.Words.{◌≤?◌, ◌=?◌, if◌then◌else◌}
+use Rattle.std.specs.Prelude.{Bool, not, ◌&&◌, List, [], ◌∷◌, ◌≡◌, ℕ, ◌+◌, ◌*◌, ◌-◌, ◌/◌, ◌%◌, ◌^◌, ◌<◌, length, get_or, if◌then◌else◌}
+use Rattle.words.specs.Words.{◌≤?◌, ◌=?◌}
 use Rattle.cascade.specs.Cascade.{tiers}
 use Rattle.book.specs.declared.Kind.TheVariants.{Bank, LifeCompany}
 use Rattle.book.specs.declared.Counterparty.{Counterparty}

@@ -1,5 +1,7 @@
 // A counterparty's class, and what is read off the two numbers that `classes` looks up by it: the column of an exposure, whether half of reinsurance may be covered, how far
 // promises count; and the tier of each column.
+#![tactic(auto)]
+
 ghost use Rattle.std.specs.Prelude.{◌≡◌, ◌-◌, ◌/◌, ◌%◌, ◌^◌, ◌≤◌, ◌<◌};
 ghost use Rattle.columns.specs.Column.{class_of, digit, digit_of, age_of, Tiered};
 

@@ -1,4 +1,6 @@
 // A book of version 1 as one of version 2: the converter's own checks, and the bytes.
+#![tactic(auto)]
+
 ghost use Rattle.std.specs.Prelude.{◌≡◌, ◌++◌, ◌≤◌, length, drop};
 ghost use Rattle.book.specs.Accepted.{Accepted};
 ghost use Rattle.conversion.specs.Conversion.{converted, first_check, narrow_check, Narrow};

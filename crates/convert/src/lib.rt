@@ -1,4 +1,6 @@
 // The converter's entry: from a book of version 1 and a lent buffer to the book as version 2, or to one refusal.
+#![tactic(auto)]
+
 ghost use Rattle.std.specs.Prelude.{◌≡◌};
 ghost use Rattle.convert.specs.Convert.{book_converts, Converts};
 

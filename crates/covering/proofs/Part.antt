@@ -5,14 +5,14 @@ use mathlib.Core.Path.{◌≡◌, refl}
 use Prim.Native.Nat.{ℕ, ◌+◌, ◌*◌, ◌/◌, ◌^◌, ◌≤◌, ◌<◌, min}
 use native.Mathlib.Omega.{arith}
 use lib.ListN.{length, get_or}
-use Rattle.words.specs.Words.{if◌then◌else◌}
+use Rattle.std.specs.Prelude.{if◌then◌else◌}
 use Rattle.wire.specs.Bytes.{bit}
 use Rattle.book.specs.declared.Mitigant.{Mitigant}
 use Rattle.book.specs.Records.{C, K, counterparty_at, mitigant_at}
 use Rattle.book.specs.Accepted.{Accepted, MitigantFits}
 use Rattle.exposure.specs.Parts.{covers}
 use Rattle.columns.specs.Column.{trust_of}
-use Rattle.columns.specs.ColumnLaws.{terms-trust, trust-le}
+use Rattle.columns.proofs.ColumnLaws.{terms-trust, trust-le}
 use Rattle.recognition.specs.Needs.{needs_at, recognised-is}
 use Rattle.covering.specs.Pass.{Known, Offers}
 

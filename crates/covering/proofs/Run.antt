@@ -14,7 +14,8 @@ use lib.Dec.{eqb}
 use lib.ListN.{length, get_or, set, length-set}
 use lib.Seq.{sets, get_or-set_same, get_or-set_other, set-get_or, set-set}
 use borrow.Author.Tests.{eqb-true, eqb-false}
-use Rattle.words.specs.Words.{if◌then◌else◌, sum_of}
+use Rattle.std.specs.Prelude.{if◌then◌else◌}
+use Rattle.words.specs.Words.{sum_of}
 use Rattle.words.specs.Choice.{if-le}
 use Rattle.wire.specs.Bytes.{M}
 use Rattle.book.specs.declared.Counterparty.{Counterparty}
@@ -24,7 +25,7 @@ use Rattle.book.specs.Fields.{linked}
 use Rattle.book.specs.Book.{Holding, mitigants_from, holdings_from}
 use Rattle.book.specs.Accepted.{Accepted}
 use Rattle.exposure.specs.Values.{net}
-use Rattle.exposure.specs.ValueLaws.{net-le}
+use Rattle.exposure.proofs.ValueLaws.{net-le}
 use Rattle.exposure.specs.Parts.{covers, half_covered, may_be_covered, covered_by, covered_of, together, drawn_by, left_after, each_drawing}
 use Rattle.exposure.specs.PartLaws.{drawn-le, may-le}
 use Rattle.assets.specs.Marks.{mark_of, Owned}

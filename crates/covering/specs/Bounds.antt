@@ -12,7 +12,7 @@ use Rattle.book.specs.Book.{Holding, holdings_from, book_of}
 use Rattle.book.specs.Accepted.{Accepted}
 use Rattle.exposure.specs.declared.Exposure.{Exposure}
 use Rattle.exposure.specs.Values.{net}
-use Rattle.exposure.specs.ValueLaws.{net-le}
+use Rattle.exposure.proofs.ValueLaws.{net-le}
 use Rattle.exposure.specs.Parts.{half_of, left_after, exposures_of, each_drawing, exposures}
 use Rattle.exposure.specs.PartLaws.{parts-net}
 use Rattle.covering.specs.Covered.{holding_at}

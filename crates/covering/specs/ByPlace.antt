@@ -3,14 +3,14 @@
 --   Parted PartedFrom PartedBook    an asset's exposures are those at its places, in order; so for assets from a place on, and for all
 --   parted               of the tables that the pass over the mitigants leaves
 --   by_place             every sum over a book's exposures is the sum over the tables
-use Rattle.std.specs.Prelude.{Bool, true, false, ◌≡◌, length, get_or, set}
+use Rattle.std.specs.Prelude.{Bool, true, false, ◌≡◌, length, get_or, set, if◌then◌else◌}
 use mathlib.Core.List.{List, [], ◌∷◌, ◌++◌}
 use Rattle.std.proofs.Math.Path.{refl}
 use Rattle.std.proofs.Common.{◌∙◌, add-one, length-set, get_or-set_same, get_or-set_other}
 use Prim.Native.Nat.{ℕ, zero, suc, ◌+◌, ◌-◌, ◌≤◌, ◌<◌, min}
 use native.Mathlib.Omega.{arith}
 use Rattle.std.proofs.lemmas.List.Edits.{sets}
-use Rattle.words.specs.Words.{if◌then◌else◌, sum_of, All}
+use Rattle.words.specs.Words.{sum_of, All}
 use Rattle.words.specs.Sums.{sum-append}
 use Rattle.book.specs.declared.Asset.{Asset}
 use Rattle.book.specs.Records.{N, K, counterparty_at, asset_at, mitigant_at}

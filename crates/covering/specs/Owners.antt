@@ -3,12 +3,12 @@
 --   owner-next            the owner goes by that of the mitigant before and by the entry at its place
 --   OwnerFits inside      each mitigant's owner is the mark of an asset of the book
 --   owned                 a table of zeros that is marked gives each mitigant's owner
-use Rattle.std.specs.Prelude.{Bool, true, false, List, ◌≡◌, refl, ltb, length}
+use Rattle.std.specs.Prelude.{Bool, true, false, List, ◌≡◌, refl, ltb, length, if◌then◌else◌}
 use Rattle.std.proofs.Common.{ap, ◌∙◌, arith, ltb-true, ltb-false}
 use Prim.Native.Nat.{ℕ, zero, suc, ◌+◌, ◌*◌, ◌-◌, ◌/◌, ◌%◌, ◌≤◌, ◌<◌, max}
 use Rattle.std.proofs.Math.ListN.{get_or, set, length-set}
 use Rattle.std.proofs.Math.Seq.{get_or-set_same, get_or-set_other}
-use Rattle.words.specs.Words.{if◌then◌else◌, sum_of}
+use Rattle.words.specs.Words.{sum_of}
 use Rattle.book.specs.Records.{N, K, asset_at}
 use Rattle.book.specs.Fields.{reinsurance}
 use Rattle.book.specs.Book.{holdings_from}

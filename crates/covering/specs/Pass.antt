@@ -3,9 +3,8 @@
 --   Offers    what the mitigant at a place could cover
 --   Coverable     the tables of assets, owners and halves before it
 --   Covers    the tables behind it
-use Rattle.std.specs.Prelude.{List, ◌≡◌, ℕ, ◌≤◌, ◌<◌, min, length, get_or}
+use Rattle.std.specs.Prelude.{List, ◌≡◌, ℕ, ◌≤◌, ◌<◌, min, length, get_or, if◌then◌else◌}
 use Rattle.std.proofs.lemmas.List.Edits.{sets}
-use Rattle.words.specs.Words.{if◌then◌else◌}
 use Rattle.book.specs.declared.Asset.{Asset}
 use Rattle.book.specs.Records.{C, N, K, counterparty_at, asset_at, mitigant_at}
 use Rattle.book.specs.Fields.{reinsurance}

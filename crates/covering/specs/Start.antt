@@ -8,7 +8,7 @@ use Rattle.book.specs.declared.Asset.{Asset}
 use Rattle.book.specs.Records.{C, N, K, counterparty_at, asset_at}
 use Rattle.book.specs.Fields.{linked}
 use Rattle.book.specs.Accepted.{Accepted, AssetFits}
-use Rattle.exposure.specs.ValueLaws.{net-le}
+use Rattle.exposure.proofs.ValueLaws.{net-le}
 use Rattle.assets.specs.Marks.{mark_of, marked}
 use Rattle.assets.specs.Shares.{rest_of, draws_on}
 use Rattle.assets.specs.Halves.{added, Halved, added-length, halves_are}

@@ -1,4 +1,6 @@
 // What mitigants cover: one loop over all mitigants of a book, with each one's asset known from a table of marks.
+#![tactic(auto)]
+
 ghost use Rattle.std.specs.Prelude.{◌≡◌, ◌≤◌, ◌<◌, max, length, get_or};
 ghost use Rattle.book.specs.Records.{K, mitigants_start};
 ghost use Rattle.book.specs.Accepted.{Accepted};

@@ -8,7 +8,8 @@ use mathlib.Core.Path.{◌≡◌, refl, sym, ap, ◌∙◌}
 use Prim.Native.Nat.{ℕ, zero, suc, ◌+◌, ◌-◌, ◌≤◌, ◌<◌}
 use native.Mathlib.Omega.{arith}
 use lib.ListN.{get_or}
-use Rattle.words.specs.Words.{◌=?◌, if◌then◌else◌, sum_of, All}
+use Rattle.std.specs.Prelude.{if◌then◌else◌}
+use Rattle.words.specs.Words.{◌=?◌, sum_of, All}
 use Rattle.words.specs.Choice.{by-test}
 use Rattle.words.specs.Sums.{sum-map, all_map, all_append, all-mapped}
 use Rattle.cascade.specs.Cascade.{tiers}
@@ -24,7 +25,7 @@ use Rattle.book.specs.declared.Mitigant.{Mitigant}
 use Rattle.book.specs.Records.{version, C, N, K, counterparty_at, asset_start, asset_at, asset_from}
 use Rattle.book.specs.Fields.{linked}
 use Rattle.book.specs.Book.{Book, book_of, top_of, mitigants_from, holdings_from}
-use Rattle.book.specs.TopLaws.{top-le, top_pos}
+use Rattle.book.proofs.TopLaws.{top-le, top_pos}
 use Rattle.book.specs.Check.{counts_add}
 use Rattle.book.specs.Accepted.{Accepted}
 use Rattle.exposure.specs.declared.Exposure.{Exposure}
@@ -33,7 +34,7 @@ use Rattle.exposure.specs.Parts.{covers, half_of, may_be_covered, left_after, co
 use Rattle.exposure.specs.PartLaws.{linked-none, drawing-sum}
 use Rattle.exposure.specs.Tier.{tier_of}
 use Rattle.exposure.specs.Sums.{amount_of, exposure_of}
-use Rattle.columns.specs.ColumnLaws.{tier-le}
+use Rattle.columns.proofs.ColumnLaws.{tier-le}
 use Rattle.covering.specs.Covered.{held_by, holding_at}
 use Rattle.covering.specs.ByPlace.{parts_at, Parted, PartedFrom, PartedBook}
 use Rattle.desks.specs.BookLines.{exposure_line, holding_lines, book_lines}

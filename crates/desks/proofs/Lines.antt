@@ -19,7 +19,7 @@ use Rattle.book.specs.Accepted.{Accepted, MitigantFits}
 use Rattle.exposure.specs.declared.Exposure.{Exposure}
 use Rattle.exposure.specs.Parts.{covered_part, remainder}
 use Rattle.columns.specs.Column.{column_of, tier_in, digit, digit_of, Tiered}
-use Rattle.columns.specs.ColumnLaws.{column-le, word-form}
+use Rattle.columns.proofs.ColumnLaws.{column-le, word-form}
 use Rattle.parties.specs.Rows.{row_of}
 use Rattle.assets.specs.Assets.{rest_cell}
 use Rattle.covering.specs.Covered.{held_by}
@@ -28,7 +28,7 @@ use Rattle.cells.specs.Cells.{column_at, cell_of, part_at, Rowed}
 use Rattle.cells.specs.CellLaws.{ExposureInside, rest-cell}
 use Rattle.desks.specs.BookLines.{exposure_line}
 use Rattle.desks.specs.Pass.{line_cell, part_lines, rest_line, asset_lines, lines_at, Lined, PartsServed, Served}
-use Rattle.desks.specs.LineLaws.{line-in, line-cell, line_small, rest_in, all_from}
+use Rattle.desks.proofs.LineLaws.{line-in, line-cell, line_small, rest_in, all_from}
 use Rattle.desks.proofs.BookLaws.{desk-few}
 
 module _ {b : List ℕ} (acc : Accepted b) where

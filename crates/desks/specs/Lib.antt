@@ -1,4 +1,3 @@
 pub mod BookLines
 pub mod Pass
-pub mod LineLaws
 mod LineCases

@@ -1,5 +1,7 @@
 // A book's exposure lines in book order: the cell of each, and the lines of what an asset's mitigants cover, to which what stands is given; what a line is not
 // given is its desk's.
+#![tactic(auto)]
+
 ghost use Rattle.std.specs.Prelude.{◌≡◌, ℕ, ◌+◌, ◌-◌, ◌≤◌, ◌<◌};
 ghost use Rattle.rows.specs.Rows.{columns};
 ghost use Rattle.book.specs.Records.{K, mitigants_start, counterparty_at};

@@ -1,11 +1,11 @@
 -- Text as bytes.
 --   ascii          the bytes of a quoted text
 --   decimal        a number in decimal digits
-use Rattle.std.specs.Prelude.{List, [], ◌∷◌, ◌++◌, ℕ, zero, suc, ◌+◌, ◌/◌, ◌%◌}
+use Rattle.std.specs.Prelude.{List, [], ◌∷◌, ◌++◌, ℕ, zero, suc, ◌+◌, ◌/◌, ◌%◌, if◌then◌else◌}
 use Prim.Native.Char.{code}
 use Prim.Native.String.{String}
 use Prim.Native.String.{[] as String·[], ◌∷◌ as ◌String·∷◌}
-use Rattle.words.specs.Words.{◌<?◌, if◌then◌else◌}
+use Rattle.words.specs.Words.{◌<?◌}
 
 -- the bytes of a quoted text, a character to a byte
 abbrev pub ascii : String → List ℕ

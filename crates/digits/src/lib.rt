@@ -1,4 +1,6 @@
 // Numbers in decimal digits, and other text, written into a lent buffer.
+#![tactic(auto)]
+
 ghost use Rattle.std.specs.Prelude.{◌∷◌, [], ◌++◌, ◌+◌, ◌≤◌, length};
 ghost use Rattle.digits.specs.Decimal.{decimal};
 ghost use Rattle.digits.specs.Written.{Written};

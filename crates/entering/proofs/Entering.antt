@@ -6,7 +6,8 @@ use Prim.Native.Nat.{ℕ, ◌+◌, ◌-◌, ◌/◌, ◌%◌, ◌^◌, ◌≤◌
 use native.Mathlib.Omega.{arith}
 use lib.ListN.{get_or, set}
 use lib.Seq.{set-get_or}
-use Rattle.words.specs.Words.{◌=?◌, if◌then◌else◌}
+use Rattle.std.specs.Prelude.{if◌then◌else◌}
+use Rattle.words.specs.Words.{◌=?◌}
 use Rattle.words.specs.Choice.{if-le}
 use Rattle.book.specs.declared.Asset.{Asset}
 use Rattle.book.specs.Fields.{linked, reinsurance}

@@ -1,4 +1,6 @@
 // An asset entered into the tables by place, the sums over reinsurance by counterparty and the sums of the fund's values.
+#![tactic(auto)]
+
 ghost use Rattle.assets.specs.Entered.{Enters, Entered};
 
 use assets::Values;

@@ -1,4 +1,6 @@
 // The entries that read a schedule and a book.
+#![tactic(auto)]
+
 ghost use Rattle.report.specs.Answer.{Answered};
 ghost use Rattle.billing.specs.Billed.{Billed};
 ghost use Rattle.questions.specs.Headroom.{Asked};

@@ -1,6 +1,6 @@
 -- Records and books for the computed cases, from the fields that matter there; every other field is 0.
-use Rattle.std.specs.Prelude.{List, [], ◌∷◌, ℕ, ◌-◌, pos, length}
-use Rattle.words.specs.Words.{◌=?◌, if◌then◌else◌, sum_of}
+use Rattle.std.specs.Prelude.{List, [], ◌∷◌, ℕ, ◌-◌, pos, length, if◌then◌else◌}
+use Rattle.words.specs.Words.{◌=?◌, sum_of}
 use Rattle.book.specs.declared.Kind.{Kind}
 use Rattle.book.specs.declared.Kind.TheVariants.{Other}
 use Rattle.book.specs.declared.Counterparty.{Counterparty}

@@ -1,13 +1,11 @@
 -- Laws of an asset's parts.
 --   covers-le covered_le drawn-le       no more is covered than may be
 --   may-le may-left                     no more than the net, and of a treaty with a half no more than is left of it
---   left-exact                          a half is drawn down by just what is covered, to no less than 0
 --   parts-sum parts-net                 "Parts and remainder add up to net"
 --   linked-none                         a linked asset gives none
 --   drawing-sum                         sums over all holdings, where they agree at each
 use Rattle.std.specs.Prelude.{true, false, List, [], ◌∷◌, ◌≡◌, refl, ℕ, ◌+◌, ◌-◌, ◌≤◌}
 use Rattle.std.proofs.Common.{arith}
-use borrow.Author.Tests.{eq-eqb}
 use Rattle.words.specs.Words.{sum_of}
 use Rattle.words.specs.Sums.{sum-append}
 use Rattle.words.specs.Choice.{if-le}
@@ -47,11 +45,6 @@ module _ (cs : ℕ → Counterparty) (left : ℕ → ℕ) where
   pub drawn-le : (h : Holding) → drawn_by cs left h ≤ may_be_covered cs left h.asset
   unfolding drawn_by covered_of
   drawn-le h = covered_le cs h.asset h.mitigants (may_be_covered cs left h.asset)
-
-  pub left-exact : (h : Holding) → half_covered h.asset (cs h.asset.counterparty) ≡ true
-      → left_after cs left h h.asset.counterparty + drawn_by cs left h ≡ left h.asset.counterparty
-  unfolding left_after
-  left-exact h e = rw (e, eq-eqb h.asset.counterparty h.asset.counterparty refl) (omega (arith, drawn-le h, may-left h.asset e))
 
 pub parts-sum : (cs : ℕ → Counterparty) (a : Asset) (ms : List Mitigant) (still rest : ℕ) → still ≤ rest → sum_of amount (parts_of cs a ms still rest) ≡ rest
 unfolding parts_of covered_part remainder sum_of

@@ -6,8 +6,8 @@
 --   together drawn_by left_after                 what they cover together, and what is left of the halves behind them
 --   covered_part remainder parts_of exposures_of  the exposures of an asset with its mitigants
 --   each_drawing exposures                      those of a book, in book order
-use Rattle.std.specs.Prelude.{Bool, not, ◌&&◌, ◌||◌, List, [], ◌∷◌, ◌++◌, ℕ, ◌-◌, ◌/◌, min}
-use Rattle.words.specs.Words.{◌≤?◌, ◌=?◌, if◌then◌else◌, sum_of}
+use Rattle.std.specs.Prelude.{Bool, not, ◌&&◌, ◌||◌, List, [], ◌∷◌, ◌++◌, ℕ, ◌-◌, ◌/◌, min, if◌then◌else◌}
+use Rattle.words.specs.Words.{◌≤?◌, ◌=?◌, sum_of}
 use Rattle.wire.specs.Bytes.{bit}
 use Rattle.book.specs.declared.Kind.TheVariants.{Bank, HomeGovernment, ProvincialGovernment, LifeCompany}
 use Rattle.book.specs.declared.Counterparty.{Counterparty}

@@ -2,8 +2,8 @@
 --   amount_of                        the exposures that pass a test
 --   exposure_of a3_exposure_of         a group's in a tier
 --   W all_net linked_net unlimited    the whole fund's
-use Rattle.std.specs.Prelude.{Bool, not, ◌&&◌, List, ℕ, ◌+◌}
-use Rattle.words.specs.Words.{◌=?◌, if◌then◌else◌, sum_of}
+use Rattle.std.specs.Prelude.{Bool, not, ◌&&◌, List, ℕ, ◌+◌, if◌then◌else◌}
+use Rattle.words.specs.Words.{◌=?◌, sum_of}
 use Rattle.book.specs.declared.Kind.TheVariants.{LifeCompany}
 use Rattle.book.specs.Fields.{◌is◌, linked}
 use Rattle.book.specs.Book.{Book, Holding, top_of}

@@ -1,8 +1,8 @@
 -- "Tiers (A1, A2)", and C-11's (P46): the tier of an exposure, or no_limit.
 --   tier_of tier_by lower_tier                          by kind and counterparty
 --   reinsurance_tier graded_tier ungraded_tier by_months    of kind 9
-use Rattle.std.specs.Prelude.{not, ◌&&◌, ◌||◌, ℕ}
-use Rattle.words.specs.Words.{◌≤?◌, ◌=?◌, if◌then◌else◌}
+use Rattle.std.specs.Prelude.{not, ◌&&◌, ◌||◌, ℕ, if◌then◌else◌}
+use Rattle.words.specs.Words.{◌≤?◌, ◌=?◌}
 use Rattle.book.specs.declared.Kind.TheVariants.{Bank, HomeGovernment, ProvincialGovernment, LifeCompany}
 use Rattle.book.specs.declared.Counterparty.{Counterparty}
 use Rattle.book.specs.Fields.{◌is◌, graded, related, affiliate, second_limb}

@@ -1,7 +1,7 @@
 -- Tiers, computed: each one reached, each condition failed, and the months at both sides of each step.
 -- A counterparty's flags: 1 related, 2 approved affiliate, 4 second limb. 16 is no limit.
-use Rattle.std.specs.Prelude.{Bool, true, ◌&&◌, ◌||◌, List, [], ◌∷◌, map, ◌≡◌, refl, ℕ}
-use Rattle.words.specs.Words.{◌<?◌, ◌=?◌, if◌then◌else◌, every}
+use Rattle.std.specs.Prelude.{Bool, true, ◌&&◌, ◌||◌, List, [], ◌∷◌, map, ◌≡◌, refl, ℕ, if◌then◌else◌}
+use Rattle.words.specs.Words.{◌<?◌, ◌=?◌, every}
 use Rattle.words.specs.Below.{all_below}
 use Rattle.book.specs.declared.Kind.TheVariants.{Other, Bank, HomeGovernment, ProvincialGovernment, LifeCompany}
 use Rattle.book.specs.declared.Counterparty.{Counterparty}

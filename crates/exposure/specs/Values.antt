@@ -4,8 +4,8 @@
 --   reinsurance_values all_netted stressed_less_netted    such sums
 --   VAF before_excluded VAF'          of a book
 --   fund_check                        14 and 15
-use Rattle.std.specs.Prelude.{◌&&◌, ℕ, ◌+◌, ◌-◌, max}
-use Rattle.words.specs.Words.{◌≤?◌, if◌then◌else◌, sum_of}
+use Rattle.std.specs.Prelude.{◌&&◌, ℕ, ◌+◌, ◌-◌, max, if◌then◌else◌}
+use Rattle.words.specs.Words.{◌≤?◌, sum_of}
 use Rattle.wire.specs.Bytes.{M}
 use Rattle.refusal.specs.declared.Checked.{Checked}
 use Rattle.refusal.specs.declared.Refusal.TheVariants.{ReinsuranceValues, StressedAssets}

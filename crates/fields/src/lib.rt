@@ -1,4 +1,6 @@
 // Refusals 10 to 12 and 17: the tests of one record's fields.
+#![tactic(auto)]
+
 ghost use Rattle.std.specs.Prelude.{◌≡◌, ◌+◌, ◌*◌, ◌<◌, ◌≤◌, length};
 ghost use Rattle.book.specs.Records.{header_size, counterparty_size};
 ghost use Rattle.book.specs.Check.{good_counterparty, in_book, no_reinsurance_fields, reinsurance_fields_fit, amounts_within, codes_fit, good_asset, good_mitigant, entry_allowed};

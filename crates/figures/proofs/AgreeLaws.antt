@@ -10,7 +10,8 @@ use mathlib.Core.Bool.{Bool}
 use mathlib.Core.List.{List, [], ◌∷◌}
 use Prim.Native.Nat.{ℕ, zero, suc, ◌+◌, ◌-◌, ◌^◌, ◌≤◌, ◌<◌}
 use native.Mathlib.Omega.{arith}
-use Rattle.words.specs.Words.{◌<?◌, if◌then◌else◌, sum, each_of, count_from, All}
+use Rattle.std.specs.Prelude.{if◌then◌else◌}
+use Rattle.words.specs.Words.{◌<?◌, sum, each_of, count_from, All}
 use Rattle.words.specs.Sums.{sum_same, each_same, all_map, all-count}
 use Rattle.cascade.specs.Cascade.{insert, ranked, next, standing, left, excess, excess_sum}
 use Rattle.cascade.proofs.Ranking.{ranked-only}

@@ -3,7 +3,8 @@ use mathlib.Core.Path.{◌≡◌, refl}
 use mathlib.Core.List.{List, [], ◌∷◌}
 use Prim.Native.Nat.{ℕ}
 use lib.ListN.{length, take}
-use Rattle.words.specs.Words.{◌=?◌, if◌then◌else◌, sum, each_of, count_from}
+use Rattle.std.specs.Prelude.{if◌then◌else◌}
+use Rattle.words.specs.Words.{◌=?◌, sum, each_of, count_from}
 use Rattle.wire.specs.Bytes.{byte_at, u16_at, u64_at}
 use Rattle.cascade.specs.Cascade.{tiers, by_tier, by_limit, ranks, insert, ranked, next, standing, left, excess, excess_sum}
 use Rattle.figures.specs.declared.Line.{Line}

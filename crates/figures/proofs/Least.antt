@@ -7,7 +7,8 @@ use native.Mathlib.Omega.{arith}
 use native.Mathlib.Decide.{dec_lt}
 use borrow.Author.Tests.{eq-eqb, eqb-true, lt-ltb, le-ltb, ltb-true, le-leb, leb-true}
 use lib.ListN.{length, length-append}
-use Rattle.words.specs.Words.{◌≤?◌, ◌<?◌, ◌=?◌, if◌then◌else◌, sum, sum_of}
+use Rattle.std.specs.Prelude.{if◌then◌else◌}
+use Rattle.words.specs.Words.{◌≤?◌, ◌<?◌, ◌=?◌, sum, sum_of}
 use Rattle.words.specs.Choice.{both}
 use Rattle.words.specs.Sums.{sum-le, sum_same}
 use Rattle.cascade.specs.Cut.{taken, Optimal, Ordered}

@@ -10,7 +10,8 @@ use native.Mathlib.Omega.{arith}
 use lib.Dec.{ltb}
 use lib.ListN.{length}
 use borrow.Author.Tests.{ltb-true}
-use Rattle.words.specs.Words.{◌<?◌, if◌then◌else◌, each_of, those, count_from}
+use Rattle.std.specs.Prelude.{if◌then◌else◌}
+use Rattle.words.specs.Words.{◌<?◌, each_of, those, count_from}
 use Rattle.words.specs.Sums.{sum_same, sum-length, each_same, all_map, all-count}
 use Rattle.cascade.specs.Cascade.{ranked, standing, left, excess}
 use Rattle.cascade.specs.Cut.{Ordered}

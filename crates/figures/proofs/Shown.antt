@@ -7,7 +7,8 @@ use Prim.Native.Nat.{ℕ, zero, suc, ◌≤◌, ◌<◌}
 use native.Mathlib.Omega.{arith}
 use lib.Dec.{ltb}
 use borrow.Author.Tests.{ne_eqb, ltb-false}
-use Rattle.words.specs.Words.{◌<?◌, if◌then◌else◌, those, All}
+use Rattle.std.specs.Prelude.{if◌then◌else◌}
+use Rattle.words.specs.Words.{◌<?◌, those, All}
 use Rattle.words.specs.Choice.{by-test}
 use Rattle.words.specs.Sums.{all_map}
 use Rattle.cascade.specs.Cascade.{insert, ranked, next, standing}

@@ -7,7 +7,8 @@ use native.Mathlib.Omega.{arith}
 use native.Mathlib.Nat.{pow-suc, one-mul}
 use lib.Count.{ones, ones_cat, ones-le}
 use lib.ListN.{length, length-append}
-use Rattle.words.specs.Words.{◌<?◌, if◌then◌else◌, sum}
+use Rattle.std.specs.Prelude.{if◌then◌else◌}
+use Rattle.words.specs.Words.{◌<?◌, sum}
 use Rattle.words.specs.Sums.{sum-le, sum_same, sum-length, length-each}
 use Rattle.figures.specs.declared.Line.{Line}
 use Rattle.figures.specs.Fund.{Fund, over_groups}

@@ -2,10 +2,11 @@
 use mathlib.Core.Path.{◌≡◌, refl, ap, ◌∙◌}
 use mathlib.Core.Bool.{Bool, true, false}
 use mathlib.Core.List.{List, [], ◌∷◌, ◌++◌, append_assoc}
-use Prim.Native.Nat.{ℕ, ◌+◌, ◌≤◌, ◌<◌}
+use Prim.Native.Nat.{ℕ, ◌+◌, ◌≤◌}
 use native.Mathlib.Omega.{arith}
 use lib.ListN.{length}
-use Rattle.words.specs.Words.{◌<?◌, if◌then◌else◌, sum_of, sum, count_from}
+use Rattle.std.specs.Prelude.{if◌then◌else◌}
+use Rattle.words.specs.Words.{◌<?◌, sum_of, sum, count_from}
 use Rattle.words.specs.Sums.{sum-each, sum-each-same, sum-count, sum_same}
 use Rattle.wire.specs.Bytes.{u16_at, u64_at}
 use Rattle.wire.proofs.Laws.{number}

@@ -1,6 +1,6 @@
 -- What any bytes say where they are read as a report: "Demand 3 reads excesses, group excess and charge off the written report".
-use Rattle.std.specs.Prelude.{Bool, ◌&&◌, List, ℕ, ◌+◌, ◌*◌}
-use Rattle.words.specs.Words.{◌=?◌, if◌then◌else◌, sum}
+use Rattle.std.specs.Prelude.{Bool, ◌&&◌, List, ℕ, ◌+◌, ◌*◌, if◌then◌else◌}
+use Rattle.words.specs.Words.{◌=?◌, sum}
 use Rattle.wire.specs.Bytes.{byte_at, u16_at, u64_at}
 use Rattle.figures.specs.declared.Line.{Line}
 use Rattle.figures.specs.Report.{head_size, line_size}

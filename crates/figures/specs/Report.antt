@@ -2,8 +2,8 @@
 --   lines_of     its lines, in the order of the report
 --   head_of      its header's figures
 --   report      its bytes
-use Rattle.std.specs.Prelude.{Bool, List, [], ◌∷◌, ◌++◌, ℕ, ◌+◌, ◌-◌, ◌^◌, length}
-use Rattle.words.specs.Words.{◌<?◌, if◌then◌else◌, sum, each_of, count_from}
+use Rattle.std.specs.Prelude.{Bool, List, [], ◌∷◌, ◌++◌, ℕ, ◌+◌, ◌-◌, ◌^◌, length, if◌then◌else◌}
+use Rattle.words.specs.Words.{◌<?◌, sum, each_of, count_from}
 use Rattle.wire.specs.Bytes.{bytes16, bytes64}
 use Rattle.cascade.specs.Cascade.{ranked, left, excess, excess_sum}
 use Rattle.figures.specs.declared.Line.{Line}

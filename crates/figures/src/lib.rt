@@ -1,5 +1,7 @@
 // What a report says: the figures of a line and of the header.
-#[derive(Drop)]
+#![tactic(auto)]
+
+#[derive(Clone, Copy)]
 pub struct Line {
     pub top: u16,
     pub tier: u8,
@@ -10,7 +12,7 @@ pub struct Line {
     pub excess: u64,
 }
 
-#[derive(Drop)]
+#[derive(Clone, Copy)]
 pub struct Head {
     pub lines: u16,
     pub vaf: u64,
@@ -24,7 +26,7 @@ pub struct Head {
 }
 
 // The header's figures that the groups have no part in.
-#[derive(Drop)]
+#[derive(Clone, Copy)]
 pub struct Figures {
     pub vaf: u64,
     pub stressed_vaf: u64,

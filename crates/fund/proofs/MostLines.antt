@@ -8,7 +8,8 @@ use Prim.Native.Nat.{ℕ, zero, suc, ◌+◌, ◌-◌, ◌≤◌}
 use native.Mathlib.Omega.{arith}
 use lib.ListN.{length, length-append}
 use borrow.Author.Tests.{eqb-true}
-use Rattle.words.specs.Words.{◌<?◌, ◌=?◌, if◌then◌else◌, sum_of, sum}
+use Rattle.std.specs.Prelude.{if◌then◌else◌}
+use Rattle.words.specs.Words.{◌<?◌, ◌=?◌, sum_of, sum}
 use Rattle.words.specs.Choice.{if-le}
 use Rattle.words.specs.Sums.{sum-zero, sum-le, sum_same, sum-length, sum-most, sum-swap, sum-once}
 use Rattle.cascade.specs.Cascade.{tiers}

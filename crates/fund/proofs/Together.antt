@@ -9,7 +9,8 @@ use mathlib.Core.Path.{◌≡◌, refl}
 use Prim.Native.Nat.{ℕ, ◌+◌, ◌-◌, ◌/◌, ◌≤◌, min}
 use native.Mathlib.Omega.{arith}
 use borrow.Author.Tests.{eqb-true}
-use Rattle.words.specs.Words.{◌=?◌, if◌then◌else◌, sum_of}
+use Rattle.std.specs.Prelude.{if◌then◌else◌}
+use Rattle.words.specs.Words.{◌=?◌, sum_of}
 use Rattle.words.specs.Choice.{both}
 use Rattle.book.specs.declared.Counterparty.{Counterparty}
 use Rattle.book.specs.declared.Asset.{Asset}
@@ -18,7 +19,7 @@ use Rattle.book.specs.Fields.{linked, reinsurance}
 use Rattle.book.specs.Book.{Holding}
 use Rattle.exposure.specs.Values.{net}
 use Rattle.exposure.specs.Parts.{recognised, covers, half_covered, treaty_net, half_of, may_be_covered, covered_by, covered_of, together, drawn_by, left_after}
-use Rattle.exposure.specs.PartLaws.{left-exact}
+use Rattle.exposure.proofs.HalfLaws.{left-exact}
 use Rattle.fund.proofs.OneTreaty.{halved-treaty}
 
 module _ (cs : ℕ → Counterparty) where

@@ -1,4 +1,6 @@
 // The fund of a schedule and an accepted book, for every entry: limits, ranking and figures, out of the sums of the passes.
+#![tactic(auto)]
+
 ghost use Rattle.std.specs.Prelude.{◌≡◌};
 ghost use Rattle.refusal.specs.declared.Checked.TheVariants.{Fine};
 ghost use Rattle.book.specs.Book.{book_of};
@@ -14,7 +16,7 @@ use figures::Figures;
 use refusal::{Checked, Refusal};
 
 // What the schedule gives for the fund's values.
-#[derive(Drop)]
+#[derive(Clone, Copy)]
 struct Limited {
     vaf: u64,
     stressed_vaf: u64,
@@ -25,7 +27,7 @@ struct Limited {
 
 // What refusals 14 and 15 find; where they let the fund pass, its limits, its tiers by rank and the header's figures that the groups have no part in,
 // and else zeros.
-#[derive(Drop)]
+#[derive(Clone, Copy)]
 pub struct Fund {
     pub found: Checked,
     pub limits: [u64; TIERS],

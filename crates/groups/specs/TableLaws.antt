@@ -3,19 +3,18 @@
 --   top-root, top_up                a place's topmost parent is its own place, or its parent's
 --   kept-root, kept-known, kept_new   what is kept on the way up, step by step
 --   kept-size, kept-other, kept-partial   a table as long as it was, the same from the place on, and still one of topmost parents
-use Rattle.std.specs.Prelude.{Bool, true, false, ◌≡◌, length, get_or}
+use Rattle.std.specs.Prelude.{Bool, true, false, ◌≡◌, length, get_or, if◌then◌else◌}
 use Rattle.std.proofs.Math.Path.{refl, ap}
 use Rattle.std.proofs.Common.{sym, ◌∙◌, pos_of_ne-zero, arith, length-set, get_or-set_same, get_or-set_other, eqb-true, eq-eqb, ne_eqb, lt-ltb}
 use mathlib.Core.List.{List}
-use Prim.Native.Nat.{ℕ, zero, suc, ◌-◌, ◌≤◌, ◌<◌}
+use Prim.Native.Nat.{ℕ, zero, suc, ◌≤◌, ◌<◌}
 use Rattle.std.proofs.Math.Dec.{eqb}
 use Rattle.std.proofs.Math.ListN.{set}
 use Rattle.std.proofs.lemmas.Bool.{eqb-false}
-use Rattle.words.specs.Words.{if◌then◌else◌}
 use Rattle.words.specs.Choice.{by-test}
 use Rattle.book.specs.Records.{C, counterparty_at}
 use Rattle.book.specs.Book.{parent_of, top_of}
-use Rattle.book.specs.TopLaws.{parent-lower, top-step}
+use Rattle.book.proofs.TopLaws.{parent-lower, top-step}
 use Rattle.groups.specs.Tops.{kept_in, kept, Partial}
 
 -- the parent as stored, where it is a lower place

@@ -2,8 +2,8 @@
 --   Blank     none is found
 --   Partial   some are
 --   kept      the table once a place's topmost parent is found
-use Rattle.std.specs.Prelude.{List, ◌≡◌, ℕ, zero, suc, ◌≤◌, ◌<◌, length, get_or, set}
-use Rattle.words.specs.Words.{◌=?◌, if◌then◌else◌}
+use Rattle.std.specs.Prelude.{List, ◌≡◌, ℕ, zero, suc, ◌≤◌, ◌<◌, length, get_or, set, if◌then◌else◌}
+use Rattle.words.specs.Words.{◌=?◌}
 use Rattle.book.specs.Records.{C, counterparty_at}
 use Rattle.book.specs.Book.{parent_of, top_of}
 

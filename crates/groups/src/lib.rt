@@ -1,4 +1,6 @@
 // The topmost parent of each counterparty: by recursion, the place falling at each call, and what is found kept in a table.
+#![tactic(auto)]
+
 ghost use Rattle.std.specs.Prelude.{◌≡◌, ◌≤◌, ◌<◌};
 ghost use Rattle.words.specs.Tables.{filled};
 ghost use Rattle.book.specs.Records.{C, counterparty_at};

@@ -1,4 +1,6 @@
 // A book's header out of its bytes: its mark, its version, its fields, and where the records stand.
+#![tactic(auto)]
+
 ghost use Rattle.std.specs.Prelude.{◌≡◌, ◌+◌, ◌*◌, ◌≤◌, length};
 ghost use Rattle.words.specs.Words.{◌=?◌};
 ghost use Rattle.book.specs.Records.{header_size, version, counterparty_size, asset_size, mitigant_size, header_at, assets_of};

@@ -12,7 +12,8 @@ use Prim.Native.Nat.{ℕ, ◌+◌, ◌-◌, ◌≤◌, min}
 use native.Mathlib.Omega.{arith}
 use borrow.Author.Tests.{eq-eqb, eqb-true, eqb-false, ne_eqb}
 use lib.Dec.{eqb}
-use Rattle.words.specs.Words.{◌=?◌, if◌then◌else◌, sum_of}
+use Rattle.std.specs.Prelude.{if◌then◌else◌}
+use Rattle.words.specs.Words.{◌=?◌, sum_of}
 use Rattle.cascade.specs.Cascade.{next}
 use Rattle.cascade.proofs.Core.{Rising, Walk, rising-less}
 use Rattle.headroom.specs.Headroom.{plus}

@@ -8,7 +8,8 @@ use native.Mathlib.Omega.{arith}
 use native.Mathlib.Numerals.{add-one}
 use lib.ListN.{length, drop, get_or}
 use lib.Seq.{drop-cons}
-use Rattle.words.specs.Words.{◌=?◌, if◌then◌else◌, sum_of, sum, All}
+use Rattle.std.specs.Prelude.{if◌then◌else◌}
+use Rattle.words.specs.Words.{◌=?◌, sum_of, sum, All}
 use Rattle.wire.specs.Bytes.{M}
 use Rattle.cascade.specs.Cascade.{tiers, by_tier, ranked, next}
 use Rattle.cascade.proofs.Core.{Rising, rising-less, all-rising}

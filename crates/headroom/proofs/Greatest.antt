@@ -7,7 +7,8 @@ use native.Mathlib.Omega.{arith}
 use native.Mathlib.Decide.{dec_lt}
 use lib.Dec.{eqb}
 use borrow.Author.Tests.{eq-eqb, ne_eqb, eqb-true, eqb-false}
-use Rattle.words.specs.Words.{◌=?◌, if◌then◌else◌, sum}
+use Rattle.std.specs.Prelude.{if◌then◌else◌}
+use Rattle.words.specs.Words.{◌=?◌, sum}
 use Rattle.words.specs.Sums.{sum-add, sum_same}
 use Rattle.words.specs.Ranges.{sum-here}
 use Rattle.cascade.specs.Cascade.{next, excess, standing_after, excess_sum}

@@ -1,6 +1,6 @@
 -- How much more a tier may take, computed on a fund of three groups, and what hasty readings would answer.
-use Rattle.std.specs.Prelude.{List, [], ◌∷◌, map, ◌≡◌, refl, ℕ, ◌+◌, ◌-◌}
-use Rattle.words.specs.Words.{◌<?◌, ◌=?◌, if◌then◌else◌, sum_of, sum}
+use Rattle.std.specs.Prelude.{List, [], ◌∷◌, map, ◌≡◌, refl, ℕ, ◌+◌, ◌-◌, if◌then◌else◌}
+use Rattle.words.specs.Words.{◌<?◌, ◌=?◌, sum_of, sum}
 use Rattle.wire.specs.Bytes.{M}
 use Rattle.cascade.specs.Cascade.{by_tier, by_limit, ranks, insert, ranked, next, standing, left, excess, excess_sum}
 use Rattle.cascade.specs.Cut.{stands}

@@ -5,8 +5,8 @@
 --   over_at room_in headroom_of   what a tier's limit has left over; the answer in a closed form: of a group's exposures, and of a fund's group
 --   row_from RankedBy    a group's exposures out of a table; a ranking that some order of the tiers gives, along which limits do not fall
 -- That the two are the same: `proofs/Greatest.greatest`, `greatest-only`.
-use Rattle.std.specs.Prelude.{Bool, List, ◌≡◌, ℕ, zero, suc, ◌+◌, ◌-◌, ◌≤◌, ◌<◌, min, get_or}
-use Rattle.words.specs.Words.{◌<?◌, ◌=?◌, if◌then◌else◌}
+use Rattle.std.specs.Prelude.{Bool, List, ◌≡◌, ℕ, zero, suc, ◌+◌, ◌-◌, ◌≤◌, ◌<◌, min, get_or, if◌then◌else◌}
+use Rattle.words.specs.Words.{◌<?◌, ◌=?◌}
 use Rattle.cascade.specs.Cascade.{tiers, by_tier, ranked, excess}
 use Rattle.cascade.specs.Cut.{stands, Ordered}
 use Rattle.figures.specs.Fund.{Fund}

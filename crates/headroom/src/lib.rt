@@ -1,4 +1,6 @@
 // How much more a tier of a group may take without raising the charge.
+#![tactic(auto)]
+
 ghost use Rattle.std.specs.Prelude.{◌≡◌, ◌+◌, ◌*◌, ◌≤◌, length};
 ghost use Rattle.words.specs.Words.{sum};
 ghost use Rattle.wire.specs.Bytes.{M};

@@ -7,7 +7,8 @@ use native.Mathlib.Omega.{arith}
 use lib.Dec.{eqb}
 use lib.ListN.{length, get_or, set, length-set}
 use borrow.Author.Tests.{eqb-true, eqb-false}
-use Rattle.words.specs.Words.{◌=?◌, if◌then◌else◌}
+use Rattle.std.specs.Prelude.{if◌then◌else◌}
+use Rattle.words.specs.Words.{◌=?◌}
 use Rattle.words.specs.Choice.{if-le}
 use Rattle.words.specs.Tables.{filled, filled_none, filled_next}
 use Rattle.wire.specs.Bytes.{M}
@@ -18,13 +19,13 @@ use Rattle.book.specs.Records.{C, N, K, counterparty_at, asset_at}
 use Rattle.book.specs.Fields.{◌is◌, linked, reinsurance, affiliate}
 use Rattle.book.specs.Accepted.{Accepted, AssetFits}
 use Rattle.book.specs.Book.{top_of}
-use Rattle.book.specs.TopLaws.{top-le}
+use Rattle.book.proofs.TopLaws.{top-le}
 use Rattle.exposure.specs.Values.{net, of_reinsurance}
-use Rattle.exposure.specs.ValueLaws.{net-le}
+use Rattle.exposure.proofs.ValueLaws.{net-le}
 use Rattle.exposure.specs.Parts.{remainder, half_covered, treaty_net}
 use Rattle.rows.specs.Rows.{columns}
 use Rattle.columns.specs.Column.{column_of, word_of, terms_of, digit, age_of}
-use Rattle.columns.specs.ColumnLaws.{word-kind, terms-column, terms-half}
+use Rattle.columns.proofs.ColumnLaws.{word-kind, terms-column, terms-half}
 use Rattle.parties.specs.Rows.{row_of, Parties}
 use Rattle.parties.specs.RowLaws.{tops-le}
 use Rattle.assets.specs.declared.Values.{Values}

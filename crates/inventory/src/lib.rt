@@ -1,7 +1,8 @@
 // The pass over the assets, by place: what there is of each to be covered or left, whose half it draws on, where its remainder is posted and where its mitigants
 // start; by counterparty: the sum of its reinsurance, not halved yet (C-18); and the sums of the fund's values.
-ghost use Rattle.std.specs.Prelude.{◌≡◌, ◌+◌, ◌*◌, ◌≤◌};
-ghost use Rattle.words.specs.Words.{if◌then◌else◌};
+#![tactic(auto)]
+
+ghost use Rattle.std.specs.Prelude.{◌≡◌, ◌+◌, ◌*◌, ◌≤◌, if◌then◌else◌};
 ghost use Rattle.book.specs.Records.{most_assets, N, assets_of};
 ghost use Rattle.book.specs.Fields.{reinsurance};
 ghost use Rattle.book.specs.Accepted.{Accepted};

@@ -1,4 +1,6 @@
 // A report's bytes: a line and the header, each put at its place and nothing beside it.
+#![tactic(auto)]
+
 ghost use Rattle.std.specs.Prelude.{◌≡◌, ◌++◌, ◌∷◌, [], ◌+◌, ◌≤◌, length};
 ghost use Rattle.wire.specs.Bytes.{bytes64, placed};
 ghost use Rattle.figures.specs.Report.{head_size, line_size, head_bytes};

@@ -9,7 +9,7 @@ use lib.Seq.{drop-cons, get_or-take, length-take-le}
 use Rattle.words.specs.Words.{sum_of, each_of}
 use Rattle.words.specs.Sums.{all_map}
 use Rattle.wire.specs.Bytes.{placed}
-use Rattle.cascade.specs.Cascade.{tiers, by_tier, next}
+use Rattle.cascade.specs.Cascade.{by_tier, next}
 use Rattle.cascade.specs.Promise.{outcome_at}
 use Rattle.cascade.specs.declared.Outcome.{Outcome}
 use Rattle.cascade.proofs.Lists.{all-at}

@@ -1,4 +1,6 @@
 // The lines of a report: each line of a list put straight into the lent bytes.
+#![tactic(auto)]
+
 ghost use Rattle.std.specs.Prelude.{◌≡◌, length};
 ghost use Rattle.words.specs.Words.{sum_of};
 ghost use Rattle.wire.specs.Bytes.{placed};

@@ -6,7 +6,8 @@ use Prim.Native.Nat.{ℕ, zero, suc, ◌+◌, ◌≤◌, ◌<◌}
 use native.Mathlib.Omega.{arith}
 use borrow.Author.Tests.{eq-eqb, ne_eqb, ltb-false}
 use lib.ListN.{length, get_or}
-use Rattle.words.specs.Words.{◌<?◌, ◌=?◌, if◌then◌else◌, sum_of, each_of, those, count_from, All}
+use Rattle.std.specs.Prelude.{if◌then◌else◌}
+use Rattle.words.specs.Words.{◌<?◌, ◌=?◌, sum_of, each_of, those, count_from, All}
 use Rattle.words.specs.Sums.{each_same, all_map}
 use Rattle.cascade.specs.Cascade.{tiers, by_tier, left_at, excess_at, next, standing}
 use Rattle.cascade.specs.Cut.{Ordered}

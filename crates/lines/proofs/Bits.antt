@@ -12,7 +12,8 @@ use lib.Pow.{pow_mono}
 use lib.Seq.{take-suc, get_or-set_same, get_or-set_other}
 use lib.Dec.{eqb}
 use borrow.Author.Tests.{eqb-true, eqb-false, eq-eqb, ne_eqb}
-use Rattle.words.specs.Words.{◌<?◌, ◌=?◌, if◌then◌else◌, sum, sum_of, those, count_from}
+use Rattle.std.specs.Prelude.{if◌then◌else◌}
+use Rattle.words.specs.Words.{◌<?◌, ◌=?◌, sum, sum_of, those, count_from}
 use Rattle.words.specs.Sums.{sum-append, sum-map, sum-each, sum-agree, sum_same, sum-count, all_map, all-count}
 use Rattle.words.specs.Ranges.{sum-zero, sum-here}
 use Rattle.cascade.specs.Cascade.{tiers, by_tier}

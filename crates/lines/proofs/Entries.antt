@@ -5,7 +5,8 @@ use Prim.Native.Nat.{ℕ, ◌+◌, ◌*◌, ◌^◌, ◌≤◌, ◌<◌}
 use native.Mathlib.Omega.{arith}
 use lib.Count.{ones}
 use lib.ListN.{length, length-map}
-use Rattle.words.specs.Words.{◌<?◌, if◌then◌else◌, sum, sum_of, each_of, those, count_from, All}
+use Rattle.std.specs.Prelude.{if◌then◌else◌}
+use Rattle.words.specs.Words.{◌<?◌, sum, sum_of, each_of, those, count_from, All}
 use Rattle.words.specs.Sums.{sum-each, sum-map, sum-agree, sum_same, sum-count, sum-length, length-each, length-count, all_map, all-mapped, all-count}
 use Rattle.cascade.specs.Cascade.{tiers, by_tier}
 use Rattle.figures.proofs.Size.{bits-ones}

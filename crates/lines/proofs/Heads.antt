@@ -8,7 +8,8 @@ use native.Mathlib.Decide.{dec_lt}
 use borrow.Author.Tests.{eq-eqb, ne_eqb}
 use lib.Count.{ones}
 use lib.ListN.{length, get_or}
-use Rattle.words.specs.Words.{◌<?◌, ◌=?◌, if◌then◌else◌, sum, sum_of, each_of, count_from}
+use Rattle.std.specs.Prelude.{if◌then◌else◌}
+use Rattle.words.specs.Words.{◌<?◌, ◌=?◌, sum, sum_of, each_of, count_from}
 use Rattle.words.specs.Sums.{sum-each, sum_same, sum-count, sum-length, each_same, all_map, all-count}
 use Rattle.cascade.specs.Cascade.{tiers, by_tier, ranked, left, excess, standing}
 use Rattle.cascade.specs.Cut.{Ordered}

@@ -2,11 +2,12 @@
 use mathlib.Core.Path.{◌≡◌, refl, ap, ap₂, sym, ◌∙◌}
 use mathlib.Core.Bool.{Bool, true, false}
 use mathlib.Core.List.{List, [], ◌∷◌, ◌++◌, map}
-use Prim.Native.Nat.{ℕ, ◌+◌, ◌<◌}
+use Prim.Native.Nat.{ℕ, ◌<◌}
 use native.Mathlib.Omega.{arith}
 use lib.ListN.{length, get_or, length-map}
 use lib.Seq.{ext_get_or}
-use Rattle.words.specs.Words.{◌<?◌, if◌then◌else◌, each_of, those, count_from, All}
+use Rattle.std.specs.Prelude.{if◌then◌else◌}
+use Rattle.words.specs.Words.{◌<?◌, each_of, those, count_from, All}
 use Rattle.words.specs.Sums.{each_same, all_map, all-count, length-count, count_at}
 use Rattle.cascade.specs.Cascade.{tiers, by_tier}
 use Rattle.cascade.specs.Promise.{Once}

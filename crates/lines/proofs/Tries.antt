@@ -8,7 +8,8 @@ use native.Mathlib.Nat.{add-zero}
 use native.Mathlib.Omega.{arith}
 use lib.ListN.{length, take, set, length-set}
 use lib.Seq.{take-suc-set, take-set-le}
-use Rattle.words.specs.Words.{if◌then◌else◌, sum_of, each_of, those, All}
+use Rattle.std.specs.Prelude.{if◌then◌else◌}
+use Rattle.words.specs.Words.{sum_of, each_of, those, All}
 use Rattle.words.specs.Sums.{all_append}
 use Rattle.lines.specs.Listing.{tried}
 

@@ -7,7 +7,8 @@ use native.Mathlib.Omega.{arith}
 use native.Mathlib.Numerals.{add-one}
 use lib.ListN.{length, drop, get_or, set, drop_of_length-le}
 use lib.Seq.{drop-cons}
-use Rattle.words.specs.Words.{◌<?◌, if◌then◌else◌, those, count_from}
+use Rattle.std.specs.Prelude.{if◌then◌else◌}
+use Rattle.words.specs.Words.{◌<?◌, those, count_from}
 use Rattle.words.specs.Sums.{length-count}
 use Rattle.cascade.specs.Cascade.{tiers, by_tier}
 use Rattle.cascade.specs.Promise.{Once}

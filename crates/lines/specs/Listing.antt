@@ -9,8 +9,8 @@
 --   entry_line              the line of an entry, by what stands before it
 --   before lines_along      what stands before an entry, and the lines along a list of entries
 --   no_group entries_in listed_lines   the entries of a list's first entries by rank, and their lines, before which nothing stands
-use Rattle.std.specs.Prelude.{Bool, List, [], ◌∷◌, map, ℕ, ◌+◌, ◌*◌, ◌/◌, ◌%◌, ◌^◌, get_or, set, take}
-use Rattle.words.specs.Words.{◌<?◌, ◌=?◌, if◌then◌else◌, each_of, those, count_from}
+use Rattle.std.specs.Prelude.{Bool, List, [], ◌∷◌, map, ℕ, ◌+◌, ◌*◌, ◌/◌, ◌%◌, ◌^◌, get_or, set, take, if◌then◌else◌}
+use Rattle.words.specs.Words.{◌<?◌, ◌=?◌, each_of, those, count_from}
 use Rattle.cascade.specs.Cascade.{tiers, by_tier, left_at, excess_at, next}
 use Rattle.figures.specs.declared.Line.{Line}
 use Rattle.rows.specs.Rows.{columns}

@@ -2,8 +2,8 @@
 --   set_of       the set of a group's tiers, of its exposures
 --   Heads       the groups' top places
 --   table_fund   the fund of a table
-use Rattle.std.specs.Prelude.{Bool, List, ℕ, ◌≤◌, ◌<◌, get_or}
-use Rattle.words.specs.Words.{◌<?◌, ◌=?◌, if◌then◌else◌, sum}
+use Rattle.std.specs.Prelude.{Bool, List, ℕ, ◌≤◌, ◌<◌, get_or, if◌then◌else◌}
+use Rattle.words.specs.Words.{◌<?◌, ◌=?◌, sum}
 use Rattle.cascade.specs.Cascade.{tiers, by_tier}
 use Rattle.figures.specs.declared.Figures.{Figures}
 use Rattle.figures.specs.Fund.{Fund}

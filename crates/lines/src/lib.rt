@@ -1,4 +1,6 @@
 // The list of a report's lines: the ranks that have one, group by group; the sets of the groups' tiers, read off the list; and how many lines there are.
+#![tactic(auto)]
+
 ghost use Rattle.std.specs.Prelude.{◌≡◌, map, ◌+◌, ◌*◌, ◌≤◌, ◌<◌, length, get_or};
 ghost use Rattle.std.specs.Int.Count.{ones};
 ghost use Rattle.words.specs.Words.{sum, those};

@@ -1,4 +1,6 @@
 // The passes over an accepted book, all of them into lent tables, refusals 14 and 15, and the fund of it and a schedule.
+#![tactic(auto)]
+
 ghost use Rattle.book.specs.Accepted.{Accepted};
 ghost use Rattle.cells.specs.Cells.{Zeros};
 ghost use Rattle.fund.specs.Fund.{Passed, Provided, Drew, Summed, Made};
@@ -9,7 +11,7 @@ use fund::Fund;
 use refusal::Checked;
 
 // The sums over the assets, and those over the exposures that no table holds.
-#[derive(Drop)]
+#[derive(Clone, Copy)]
 struct Drawn {
     values: Values,
     sums: Sums,

@@ -5,7 +5,8 @@ use Prim.Native.Nat.{ℕ, ◌+◌, ◌≤◌, ◌<◌}
 use native.Mathlib.Omega.{arith}
 use lib.ListN.{length, take, drop, length-drop, take-append-drop}
 use lib.Seq.{length-take-le, take_all, take-add, drop-drop, get_or-take, get_or-drop}
-use Rattle.words.specs.Words.{◌=?◌, if◌then◌else◌}
+use Rattle.std.specs.Prelude.{if◌then◌else◌}
+use Rattle.words.specs.Words.{◌=?◌}
 use Rattle.wire.specs.Bytes.{byte_at, u16_at, u64_at}
 use Rattle.book.specs.Records.{version, count_in}
 use Rattle.movement.specs.Raw.{slice}

@@ -3,8 +3,8 @@
 --   RawHolding bare mitigant_count   an asset's record with its mitigants' records, one without, and how many these are in a book of a version
 --   raw_from raw_holdings             those of a book
 --   front_of made_of                  a header and counterparties with other counts; the book made afresh from such assets
-use Rattle.std.specs.Prelude.{List, [], ◌∷◌, ◌++◌, ℕ, zero, suc, ◌+◌, ◌*◌, length, take, drop}
-use Rattle.words.specs.Words.{◌=?◌, if◌then◌else◌, sum_of, each_of}
+use Rattle.std.specs.Prelude.{List, [], ◌∷◌, ◌++◌, ℕ, zero, suc, ◌+◌, ◌*◌, length, take, drop, if◌then◌else◌}
+use Rattle.words.specs.Words.{◌=?◌, sum_of, each_of}
 use Rattle.wire.specs.Bytes.{byte_at, u16_at, bytes16}
 use Rattle.book.specs.Records.{asset_size, mitigant_size, version, C, N, asset_start, mitigant_start, asset_at}
 

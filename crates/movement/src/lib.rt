@@ -1,4 +1,6 @@
 // A movement of the book in a lent buffer: how many bytes are the book's, whether the movement can be made, and where the asset that goes stands.
+#![tactic(auto)]
+
 ghost use Rattle.std.specs.Prelude.{◌&&◌, ◌≡◌, ◌<◌, ◌≤◌};
 ghost use Rattle.words.specs.Words.{◌≤?◌};
 ghost use Rattle.book.specs.Records.{N};
@@ -7,14 +9,14 @@ ghost use Rattle.movement.specs.Movement.{counts_before, movement_of, possible};
 ghost use Rattle.movement.specs.Promise.{SizeIn, Found};
 
 // What an entry was asked: an asset more, whose record stands beside it, or the asset at a place less.
-#[derive(Drop)]
+#[derive(Clone, Copy)]
 pub enum Change {
     Add,
     Remove(u64),
 }
 
 // Where an asset starts, where its mitigants start and what is behind these, and how many they are.
-#[derive(Drop)]
+#[derive(Clone, Copy)]
 pub struct Spot {
     pub asset: usize,
     pub first: usize,

@@ -1,4 +1,6 @@
 // The entries that move an asset: the book in a lent buffer with an asset more or less, and its report, or one refusal.
+#![tactic(auto)]
+
 ghost use Rattle.std.specs.Prelude.{◌≡◌};
 ghost use Rattle.schedule.specs.Check.{schedule_check};
 ghost use Rattle.movement.specs.Movement.{Add, Remove, movement_of};

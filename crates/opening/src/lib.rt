@@ -1,4 +1,6 @@
 // Opening a schedule and a book for an entry, whatever it wants: refusals 1 to 13 and 17, tables in the size of the book, and the fund.
+#![tactic(auto)]
+
 ghost use Rattle.std.specs.Prelude.{◌≡◌, ◌≤◌};
 ghost use Rattle.book.specs.Records.{C};
 ghost use Rattle.cells.specs.Cells.{Zeros};

@@ -1,4 +1,6 @@
 // What C gets as one number: an answer, and the library's version beside the versions of schedules and books that it takes.
+#![tactic(auto)]
+
 ghost use Rattle.std.specs.Prelude.{◌≡◌};
 ghost use Rattle.packing.specs.Packed.{packed};
 ghost use Rattle.packing.specs.Version.{library_version};

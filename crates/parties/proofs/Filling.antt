@@ -6,13 +6,14 @@ use Prim.Native.Nat.{ℕ, ◌+◌, ◌*◌, ◌-◌, ◌≤◌, ◌<◌}
 use native.Mathlib.Omega.{arith}
 use lib.ListN.{length, get_or, set, length-set}
 use borrow.Author.Tests.{eqb-true, eqb-false}
-use Rattle.words.specs.Words.{◌=?◌, if◌then◌else◌}
+use Rattle.std.specs.Prelude.{if◌then◌else◌}
+use Rattle.words.specs.Words.{◌=?◌}
 use Rattle.words.specs.Choice.{by-test}
 use Rattle.words.specs.Tables.{filled, filled_none, filled_next, filled-length, filled_at}
 use Rattle.book.specs.declared.Counterparty.{Counterparty}
 use Rattle.book.specs.Records.{C, counterparty_at}
 use Rattle.book.specs.Book.{parent_of, top_of}
-use Rattle.book.specs.TopLaws.{top-le, top_pos}
+use Rattle.book.proofs.TopLaws.{top-le, top_pos}
 use Rattle.book.specs.Accepted.{Accepted}
 use Rattle.groups.specs.TableLaws.{parent-stored, top-root, top_up}
 use Rattle.rows.specs.Rows.{columns}

@@ -7,20 +7,20 @@
 --   Head head-is                      what stands in it under the number of a group
 --   head_at head-row heads-rise       a top stands under its number; its row; tops in book order
 --   parties-of                        what filled tables hold, place by place
-use Rattle.std.specs.Prelude.{Bool, true, false, List, ◌≡◌, ltb, length, set}
+use Rattle.std.specs.Prelude.{Bool, true, false, List, ◌≡◌, ltb, length, set, if◌then◌else◌}
 use Rattle.std.proofs.Math.Path.{refl}
 use Rattle.std.proofs.Common.{◌∙◌, get_or-set_other, eqb-true, eq-eqb, ltb-true, ltb-false}
 use Prim.Native.Nat.{ℕ, zero, suc, ◌+◌, ◌*◌, ◌-◌, ◌≤◌, ◌<◌}
 use native.Mathlib.Omega.{arith}
 use Rattle.std.proofs.Math.ListN.{get_or, length-set}
 use Rattle.std.proofs.Math.Seq.{get_or-set_same}
-use Rattle.words.specs.Words.{◌=?◌, if◌then◌else◌}
+use Rattle.words.specs.Words.{◌=?◌}
 use Rattle.words.specs.Choice.{by-test, if-le}
 use Rattle.words.specs.Tables.{filled-length, filled_at}
 use Rattle.book.specs.declared.Counterparty.{Counterparty}
 use Rattle.book.specs.Records.{C, counterparty_at}
 use Rattle.book.specs.Book.{parent_of, top_in, top_of}
-use Rattle.book.specs.TopLaws.{parent-lower, top-step, top-le, top_pos}
+use Rattle.book.proofs.TopLaws.{parent-lower, top-step, top-le, top_pos}
 use Rattle.rows.specs.Rows.{columns}
 use Rattle.parties.specs.Rows.{tops_to, row_of, headed, words_of, terms_for, Parties, Fillable, Filled}
 

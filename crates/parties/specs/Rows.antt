@@ -5,8 +5,8 @@
 --   Parties    what the tables hold, place by place
 --   Fillable      tables that the pass can fill
 --   Filled     what it leaves in them
-use Rattle.std.specs.Prelude.{List, ◌≡◌, ℕ, zero, suc, ◌+◌, ◌*◌, ◌-◌, ◌≤◌, ◌<◌, length, get_or, set}
-use Rattle.words.specs.Words.{◌=?◌, if◌then◌else◌}
+use Rattle.std.specs.Prelude.{List, ◌≡◌, ℕ, zero, suc, ◌+◌, ◌*◌, ◌-◌, ◌≤◌, ◌<◌, length, get_or, set, if◌then◌else◌}
+use Rattle.words.specs.Words.{◌=?◌}
 use Rattle.words.specs.Tables.{filled}
 use Rattle.book.specs.Records.{C, counterparty_at}
 use Rattle.book.specs.Book.{parent_of, top_of}

@@ -1,4 +1,6 @@
 // The passes over the counterparties: their topmost parents from the last place down, then all that goes by place from the first up.
+#![tactic(auto)]
+
 ghost use Rattle.std.specs.Prelude.{◌≡◌};
 ghost use Rattle.book.specs.Records.{C};
 ghost use Rattle.book.specs.Accepted.{Accepted};

@@ -1,4 +1,6 @@
 // Little-endian numbers put into byte slices, each at its place; what `wire` reads.
+#![tactic(auto)]
+
 ghost use Rattle.std.specs.Prelude.{◌≡◌, ◌∷◌, [], ◌++◌, ◌+◌, ◌≤◌, length, drop};
 ghost use Rattle.wire.specs.Bytes.{bytes16, bytes64, placed};
 

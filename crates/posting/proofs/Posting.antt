@@ -12,7 +12,7 @@ use Rattle.exposure.specs.Parts.{covered_part, remainder}
 use Rattle.exposure.specs.Sums.{amount_of}
 use Rattle.rows.specs.Rows.{most_groups, columns}
 use Rattle.columns.specs.Column.{digit, digit_of}
-use Rattle.columns.specs.ColumnLaws.{word-form}
+use Rattle.columns.proofs.ColumnLaws.{word-form}
 use Rattle.parties.specs.Rows.{tops_to}
 use Rattle.parties.specs.RowLaws.{row_small, tops-le}
 use Rattle.covering.specs.ByPlace.{parts_at, rests_at}

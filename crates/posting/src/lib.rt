@@ -1,5 +1,7 @@
 // A book's exposures added up in a table of cells, each once, at the row of its group and its own column: what each mitigant covers, and what is left of each asset. Then the
 // columns are folded onto their tiers.
+#![tactic(auto)]
+
 ghost use Rattle.std.specs.Prelude.{[], ◌≡◌, ℕ, ◌≤◌, ◌<◌};
 ghost use Rattle.book.specs.Records.{N, K, mitigants_start};
 ghost use Rattle.book.specs.Accepted.{Accepted};

@@ -1,4 +1,6 @@
 // The whole way of the program but for reading and writing: from the bytes that it reads to the text that it prints.
+#![tactic(auto)]
+
 ghost use Rattle.std.specs.Prelude.{◌≡◌, ◌≤◌, min, length, take, drop};
 ghost use Rattle.io.specs.Counts.{IsPrefixLen};
 ghost use Rattle.schedule.specs.Schedule.{schedule_size};

@@ -7,8 +7,8 @@
 --   MovementMade   of weightrose_add and weightrose_remove
 --   Published      of weightrose_published
 --   Versioned      of weightrose_version
-use Rattle.std.specs.Prelude.{List, ◌++◌, ◌≡◌, ℕ, ◌≤◌, ◌<◌, length, drop}
-use Rattle.words.specs.Words.{◌≤?◌, if◌then◌else◌}
+use Rattle.std.specs.Prelude.{List, ◌++◌, ◌≡◌, ℕ, ◌≤◌, ◌<◌, length, drop, if◌then◌else◌}
+use Rattle.words.specs.Words.{◌≤?◌}
 use Rattle.wire.specs.Bytes.{bit}
 use Rattle.refusal.specs.declared.Answer.{Answer}
 use Rattle.refusal.specs.declared.Answer.TheVariants.{Written, Refused}

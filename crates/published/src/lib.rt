@@ -1,4 +1,6 @@
 // The published schedule's bytes.
+#![tactic(auto)]
+
 ghost use Rattle.std.specs.Prelude.{◌≡◌, ◌+◌, ◌≤◌, length};
 ghost use Rattle.words.specs.Words.{each_of};
 ghost use Rattle.wire.specs.Bytes.{placed};

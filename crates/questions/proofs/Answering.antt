@@ -12,12 +12,12 @@ use Rattle.schedule.specs.Schedule.{schedule_of}
 use Rattle.book.specs.declared.Counterparty.{Counterparty}
 use Rattle.book.specs.Records.{C, counterparty_at}
 use Rattle.book.specs.Book.{book_of}
-use Rattle.book.specs.TopLaws.{top-le, top_pos}
+use Rattle.book.proofs.TopLaws.{top-le, top_pos}
 use Rattle.book.specs.Accepted.{Accepted}
 use Rattle.exposure.specs.Tier.{tier_of}
 use Rattle.exposure.specs.Sums.{exposure_of}
 use Rattle.columns.specs.Column.{column_of, tier_in}
-use Rattle.columns.specs.ColumnLaws.{word-kind, tier-in, column-le}
+use Rattle.columns.proofs.ColumnLaws.{word-kind, tier-in, column-le}
 use Rattle.parties.specs.Rows.{tops_to, row_of}
 use Rattle.parties.specs.RowLaws.{top-alone, top-top, same-group, row_small}
 use Rattle.cells.specs.Cells.{Rowed}

@@ -18,7 +18,7 @@ use Rattle.headroom.proofs.Greatest.{greatest}
 use Rattle.schedule.specs.Schedule.{schedule_of}
 use Rattle.book.specs.Records.{C, counterparty_at}
 use Rattle.book.specs.Book.{book_of}
-use Rattle.book.specs.TopLaws.{top-le, top_pos}
+use Rattle.book.proofs.TopLaws.{top-le, top_pos}
 use Rattle.exposure.specs.Values.{fund_check}
 use Rattle.book.specs.Accepted.{Accepted}
 use Rattle.parties.specs.Rows.{tops_to}

@@ -1,4 +1,6 @@
 // The answers to a list of questions of a fund, or refusals 20 and 21.
+#![tactic(auto)]
+
 ghost use Rattle.std.specs.Prelude.{◌≡◌};
 ghost use Rattle.wire.specs.Bytes.{placed};
 ghost use Rattle.wire.specs.Amounts.{amounts_bytes};

@@ -2,10 +2,10 @@
 --   flags-back       the flags put together again, bit by bit
 --   needs_at          the number
 --   recognised-is    its bits are `recognised`
-use Rattle.std.specs.Prelude.{Bool, true, not, ◌&&◌, ◌||◌, [], ◌∷◌, ◌≡◌, refl, ℕ, ◌+◌, ◌*◌, ◌<◌, get_or}
+use Rattle.std.specs.Prelude.{Bool, true, not, ◌&&◌, ◌||◌, [], ◌∷◌, ◌≡◌, refl, ℕ, ◌+◌, ◌*◌, ◌<◌, get_or, if◌then◌else◌}
 use Rattle.std.specs.Bool.{beq}
 use Rattle.std.proofs.Common.{arith, eqb-true, ne_eqb}
-use Rattle.words.specs.Words.{◌≤?◌, ◌=?◌, if◌then◌else◌}
+use Rattle.words.specs.Words.{◌≤?◌, ◌=?◌}
 use Rattle.words.specs.Below.{all_below, below, all_truths, at-truth}
 use Rattle.wire.specs.Bytes.{bit}
 use Rattle.book.specs.declared.Kind.TheVariants.{Bank}
@@ -15,7 +15,7 @@ use Rattle.book.specs.declared.Mitigant.{Mitigant}
 use Rattle.book.specs.Fields.{◌is◌, graded, related, reinsurance}
 use Rattle.exposure.specs.Parts.{good_collateral, good_guarantee, recognised}
 use Rattle.columns.specs.Column.{trust_of}
-use Rattle.columns.specs.ColumnLaws.{beq-true}
+use Rattle.columns.proofs.ColumnLaws.{beq-true}
 
 abbrev bits : ℕ → ℕ
 bits f = (if bit 0 f then 1 else 0) + (if bit 1 f then 2 else 0) + (if bit 2 f then 4 else 0) + (if bit 3 f then 8 else 0) + (if bit 4 f then 16 else 0)

@@ -1,4 +1,6 @@
 // Whether a mitigant counts: its flags give a number, and form, asset and counterparty a bit of that.
+#![tactic(auto)]
+
 ghost use Rattle.std.specs.Prelude.{◌≡◌, ◌+◌, ◌*◌, ◌≤◌, ◌<◌};
 ghost use Rattle.wire.specs.Bytes.{bit};
 ghost use Rattle.recognition.specs.Needs.{needs_at};
@@ -16,6 +18,7 @@ fn key_of(flags: u8) -> u8
 }
 
 // The number of some flags.
+#[tactic(auto, unfolding(crate::specs::Needs::needs_at))]
 fn needs_at(flags: u8) -> u64
     requires { flags < 32 }
     ensures { result ≡ needs_at flags }

@@ -1,4 +1,6 @@
 // The records of a book whose header fits, 10 to 13 and 17: the first bad one of each type, in book order.
+#![tactic(auto)]
+
 ghost use Rattle.std.specs.Prelude.{◌≡◌};
 ghost use Rattle.book.specs.Records.{C, N, K, specialist, assets_of, mitigants_start};
 ghost use Rattle.book.specs.Check.{counts_add, counterparties_check, assets_check, mitigants_check, specialist_check};

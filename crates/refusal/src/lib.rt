@@ -1,10 +1,12 @@
 // A refusal, by name; what a section of checks finds; what the desk answers; and the chain of checks.
+#![tactic(auto)]
+
 ghost use Rattle.std.specs.Prelude.{◌≡◌, ◌<◌, ◌≤◌};
 ghost use Rattle.refusal.specs.Refusals.{number_of, place_of};
 ghost use Rattle.refusal.specs.Chain.{refuse◌unless◌, ◌and_then◌};
 
 // The refusals in the order of their numbers, 1 to 22. Those of a record carry its place, from 1.
-#[derive(Drop)]
+#[derive(Clone, Copy)]
 pub enum Refusal {
     ScheduleLength,
     ScheduleMark,
@@ -31,14 +33,14 @@ pub enum Refusal {
 }
 
 // What a section of checks finds.
-#[derive(Drop)]
+#[derive(Clone, Copy)]
 pub enum Checked {
     Fine,
     Bad(Refusal),
 }
 
 // The answer of an entry: how many bytes it wrote, or a refusal.
-#[derive(Drop)]
+#[derive(Clone, Copy)]
 pub enum Answer {
     Written(usize),
     Refused(Refusal),

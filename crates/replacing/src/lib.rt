@@ -1,4 +1,6 @@
 // The book that a movement makes, in the place of the one in the buffer, and its report.
+#![tactic(auto)]
+
 ghost use Rattle.std.specs.Prelude.{◌+◌, ◌≤◌, length};
 ghost use Rattle.book.specs.Records.{asset_size};
 ghost use Rattle.day.specs.Moving.{Replaced};

@@ -1,4 +1,6 @@
 // The report of a fund, or refusal 16.
+#![tactic(auto)]
+
 ghost use Rattle.fund.specs.Fund.{Rateable, RatedAs};
 ghost use Rattle.report.specs.Answer.{Answered};
 ghost use Rattle.report.specs.Tables.{Headed, Room, Lists};

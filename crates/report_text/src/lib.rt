@@ -1,4 +1,6 @@
 // The text of a report, read off its bytes and written into a lent buffer.
+#![tactic(auto)]
+
 ghost use Rattle.std.specs.Prelude.{◌≡◌, ◌+◌, ◌*◌, ◌≤◌, length};
 ghost use Rattle.figures.specs.Report.{head_size, line_size};
 ghost use Rattle.figures.specs.Read.{line_from, lines_in, charge_in};

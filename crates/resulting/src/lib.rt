@@ -1,4 +1,6 @@
 // The book after a movement, put into lent bytes.
+#![tactic(auto)]
+
 ghost use Rattle.std.specs.Prelude.{true, ◌≡◌, ◌++◌, ◌+◌, ◌-◌, ◌<◌, ◌≤◌, length};
 ghost use Rattle.wire.specs.Bytes.{bytes16, placed};
 ghost use Rattle.book.specs.Records.{N, asset_size};

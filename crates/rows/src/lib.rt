@@ -1,4 +1,6 @@
 // A table of cells: a row of columns to each group; a group's amounts by tier, and by rank.
+#![tactic(auto)]
+
 ghost use Rattle.std.specs.Prelude.{◌≡◌, map, ◌+◌, ◌*◌, ◌≤◌, length};
 ghost use Rattle.cascade.specs.Cascade.{tiers, by_tier};
 ghost use Rattle.cascade.specs.Promise.{Once};

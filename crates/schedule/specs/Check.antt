@@ -2,8 +2,8 @@
 --   schedule_marked known row_fits rates_fit   the tests of 2, 3 and 4
 --   most_written                             the most that a rate of a version may be
 --   fields_check schedule_check               the refusals 2 to 4, and all
-use Rattle.std.specs.Prelude.{Bool, ◌&&◌, ◌||◌, List, ℕ, length}
-use Rattle.words.specs.Words.{◌≤?◌, ◌=?◌, if◌then◌else◌}
+use Rattle.std.specs.Prelude.{Bool, ◌&&◌, ◌||◌, List, ℕ, length, if◌then◌else◌}
+use Rattle.words.specs.Words.{◌≤?◌, ◌=?◌}
 use Rattle.wire.specs.Bytes.{M, byte_at}
 use Rattle.limit.specs.declared.Row.{Row}
 use Rattle.limit.specs.Bounds.{most_rate}

@@ -5,16 +5,16 @@
 --   stays stays-a3       the limits of a version 1 schedule are those that its rates give in per mille; its tiers rank alike too (proofs/RankLaws)
 --   Tenfold              a version 1 schedule, and a version 2 schedule with ten times its rates
 --   tenfold-counts tenfold-check   they count alike, and refusals 1 to 4 find the same of both
-use Rattle.std.specs.Prelude.{Bool, true, false, ◌≡◌, ℕ, ◌*◌, ℤ, length}
+use Rattle.std.specs.Prelude.{Bool, true, false, ◌≡◌, ℕ, ◌*◌, ℤ, length, if◌then◌else◌}
 use mathlib.Core.List.{List, [], ◌∷◌, map}
 use Rattle.std.proofs.Math.Path.{refl, ap, ap₂}
 use Rattle.std.proofs.Common.{sym, ◌∙◌, one-mul, arith, leb-true, leb-false, le-leb}
 use Rattle.std.proofs.lemmas.Bool.{lt-leb}
-use Rattle.words.specs.Words.{◌≤?◌, ◌=?◌, if◌then◌else◌}
+use Rattle.words.specs.Words.{◌≤?◌, ◌=?◌}
 use Rattle.limit.specs.declared.Row.{Row}
 use Rattle.limit.specs.Limit.{per_mille, ten_thousandths, times_row, cents_of}
 use Rattle.limit.specs.Bounds.{most_rate}
-use Rattle.limit.specs.ScaleLaws.{tenfold-unrounded, per-mille}
+use Rattle.limit.proofs.ScaleLaws.{tenfold-unrounded, per-mille}
 use Rattle.schedule.specs.declared.Schedule.{Schedule}
 use Rattle.schedule.specs.Schedule.{version, counts, times_all, written_of, schedule_of}
 use Rattle.schedule.specs.Check.{schedule_marked, most_written, row_fits, rates_fit, fields_check, schedule_check}

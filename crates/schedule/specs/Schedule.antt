@@ -8,8 +8,8 @@
 --   rows_of                    a schedule's rows in their order
 --   published                 the published schedule, as it is written
 --   mark row_bytes head_bytes schedule_bytes    a version 1 schedule's bytes
-use Rattle.std.specs.Prelude.{List, [], ◌∷◌, ◌++◌, ℕ, ◌+◌, ◌*◌}
-use Rattle.words.specs.Words.{◌=?◌, if◌then◌else◌, each_of}
+use Rattle.std.specs.Prelude.{List, [], ◌∷◌, ◌++◌, ℕ, ◌+◌, ◌*◌, if◌then◌else◌}
+use Rattle.words.specs.Words.{◌=?◌, each_of}
 use Rattle.wire.specs.Bytes.{u16_at, u64_at, bytes16, bytes64}
 use Rattle.limit.specs.declared.Row.{Row}
 use Rattle.limit.specs.Limit.{times_row}

@@ -1,4 +1,6 @@
 // A schedule of rates out of its bytes, and refusals 1 to 4.
+#![tactic(auto)]
+
 ghost use Rattle.std.specs.Prelude.{◌≡◌, ◌+◌, ◌*◌, ◌≤◌, ◌<◌, length};
 ghost use Rattle.wire.specs.Bytes.{u16_at};
 ghost use Rattle.limit.specs.Limit.{times_row};
@@ -25,7 +27,7 @@ pub const HEAD_SIZE: usize = 10;
 pub const ROW_SIZE: usize = 14;
 
 // "percent kept after the first downgrade step, (..) after the second, then rows c, d, e, f, g, h, i, z"
-#[derive(Drop)]
+#[derive(Clone, Copy)]
 pub struct Schedule {
     pub first: u64,
     pub second: u64,

@@ -1,5 +1,7 @@
 // The pass over a book's exposure lines in book order, each asset's covered parts before its remainder: what stands is given to the lines, and
 // what a line is not given is its desk's.
+#![tactic(auto)]
+
 ghost use Rattle.desks.specs.Pass.{Servable, Served};
 
 use book::Assets;

@@ -10,7 +10,8 @@ use lib.Dec.{eqb}
 use lib.ListN.{length, drop, get_or, set, length-set}
 use lib.Seq.{drop-cons, get_or-set_same, get_or-set_other}
 use borrow.Author.Tests.{eq-eqb, ne_eqb, eqb-true, eqb-false}
-use Rattle.words.specs.Words.{◌=?◌, if◌then◌else◌, sum_of, All}
+use Rattle.std.specs.Prelude.{if◌then◌else◌}
+use Rattle.words.specs.Words.{◌=?◌, sum_of, All}
 use Rattle.wire.specs.Bytes.{M}
 use Rattle.cascade.specs.declared.Outcome.{Outcome}
 use Rattle.cascade.specs.Cascade.{tiers, by_tier, excess_at, next, standing, excess}

@@ -1,4 +1,6 @@
 // What stands in each tier of each group, put in the place of its exposure.
+#![tactic(auto)]
+
 ghost use Rattle.standing.specs.Standing.{Standable, GroupStood, Groups, Stood};
 
 use cascade::TIERS;

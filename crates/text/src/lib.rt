@@ -1,4 +1,6 @@
 // What the desk prints, written into a lent buffer: a printed line of each sort. Each function answers the place behind what it put.
+#![tactic(auto)]
+
 ghost use Rattle.std.specs.Prelude.{◌+◌, ◌≤◌, length};
 ghost use Rattle.refusal.specs.Refusals.{number_of, place_of};
 ghost use Rattle.digits.specs.Written.{Written};

@@ -1,4 +1,6 @@
 // The limits that a schedule gives a fund, tier by tier.
+#![tactic(auto)]
+
 ghost use Rattle.std.specs.Prelude.{◌≡◌, map, ◌≤◌};
 ghost use Rattle.wire.specs.Bytes.{M};
 ghost use Rattle.limit.specs.Limit.{ten_thousandths, counted, cents_of};

@@ -1,4 +1,6 @@
 // A fund's VAF and VAF', and refusals 14 and 15, out of the sums over its assets.
+#![tactic(auto)]
+
 ghost use Rattle.std.specs.Prelude.{◌≡◌};
 ghost use Rattle.book.specs.Book.{book_of};
 ghost use Rattle.book.specs.Accepted.{Accepted};

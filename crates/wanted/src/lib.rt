@@ -1,4 +1,6 @@
 // What an entry wants of a fund: the report, the bills or the answers, and what each of them promises. How one is added: docs/ENTRIES.md.
+#![tactic(auto)]
+
 ghost use Rattle.fund.specs.Tables.{FundTables};
 ghost use Rattle.report.specs.Tables.{Headed, Room};
 ghost use Rattle.wanted.specs.Wanted.{Promised};
@@ -7,7 +9,7 @@ use fund::Fund;
 use refusal::Answer;
 
 // What an entry makes of a fund; a rate in ten-thousandths. The questions of Headroom stand beside it: `asked` is empty for the others.
-#[derive(Drop)]
+#[derive(Clone, Copy)]
 pub enum Wanted {
     Report,
     Bills(u64),

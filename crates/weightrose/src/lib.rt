@@ -1,4 +1,6 @@
 // The library's exported entries, on numbers and byte slices.
+#![tactic(auto)]
+
 ghost use Rattle.movement.specs.Movement.{Add, Remove};
 ghost use Rattle.promises.specs.Exported.{Reported, Converted, BillsWritten, Answers, MovementMade, Published, Versioned};
 

@@ -4,8 +4,8 @@
 --   bit                    a bit of a byte
 --   bytes16 bytes64        a number's bytes
 --   placed                 a list with other bytes at a place
-use Rattle.std.specs.Prelude.{Bool, List, [], ◌∷◌, ◌++◌, ℕ, ◌+◌, ◌*◌, ◌-◌, ◌/◌, ◌%◌, ◌^◌, ℤ, pos, negsuc, length, get_or, take, drop}
-use Rattle.words.specs.Words.{◌<?◌, ◌=?◌, if◌then◌else◌}
+use Rattle.std.specs.Prelude.{Bool, List, [], ◌∷◌, ◌++◌, ℕ, ◌+◌, ◌*◌, ◌-◌, ◌/◌, ◌%◌, ◌^◌, ℤ, pos, negsuc, length, get_or, take, drop, if◌then◌else◌}
+use Rattle.words.specs.Words.{◌<?◌, ◌=?◌}
 
 -- "M = 10,000,000,000,000"
 abbrev pub M : ℕ

@@ -1,6 +1,8 @@
 // Little-endian numbers read from byte slices, each at its place; and the most that an amount may be. `placing` writes them.
-ghost use Rattle.std.specs.Prelude.{◌≡◌, ◌+◌, ◌%◌, ◌≤◌, ◌<◌, length};
-ghost use Rattle.words.specs.Words.{◌=?◌, if◌then◌else◌};
+#![tactic(auto)]
+
+ghost use Rattle.std.specs.Prelude.{◌≡◌, ◌+◌, ◌%◌, ◌≤◌, ◌<◌, length, if◌then◌else◌};
+ghost use Rattle.words.specs.Words.{◌=?◌};
 ghost use Rattle.wire.specs.Bytes.{byte_at, u16_at, u64_at, i64_at, sum16, sum64, signed_of};
 
 // "Amounts are whole cents, each one read at most M".

@@ -1,7 +1,7 @@
 -- Laws of tests and of a choice: by-test, never, both, each-true (of tests that are `joined`), not-true, not-false, if-le.
-use Rattle.std.specs.Prelude.{Bool, true, false, not, ◌&&◌, List, [], ◌∷◌, ◌≡◌, refl, ℕ, ◌≤◌}
+use Rattle.std.specs.Prelude.{Bool, true, false, not, ◌&&◌, List, [], ◌∷◌, ◌≡◌, refl, ℕ, ◌≤◌, if◌then◌else◌}
 use Rattle.std.proofs.Common.{sym, ap, arith}
-use Rattle.words.specs.Words.{if◌then◌else◌, All}
+use Rattle.words.specs.Words.{All}
 
 -- what holds of both ways of a choice, each where its test says so, holds of the choice
 pub by-test : {A : Type 0} (P : A → Type 0) (t : Bool) (a b : A) → (t ≡ true → P a) → (t ≡ false → P b) → P (if t then a else b)

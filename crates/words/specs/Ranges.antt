@@ -3,10 +3,10 @@
 --   sum-within   a sum with one number more is within the sum over a longer range
 --   sum-zero     of zeros
 --   sum-here     of what is at one number alone
-use Rattle.std.specs.Prelude.{Bool, true, false, ◌≡◌, refl, ℕ, zero, suc, ◌+◌, ◌-◌, ◌≤◌, ◌<◌, eqb}
+use Rattle.std.specs.Prelude.{Bool, true, false, ◌≡◌, refl, ℕ, zero, suc, ◌+◌, ◌-◌, ◌≤◌, ◌<◌, eqb, if◌then◌else◌}
 use Rattle.std.proofs.Common.{arith, eqb-true, ne_eqb}
 use Rattle.std.proofs.lemmas.Bool.{eqb-false}
-use Rattle.words.specs.Words.{◌=?◌, if◌then◌else◌, sum}
+use Rattle.words.specs.Words.{◌=?◌, sum}
 
 pub sum-next : (f : ℕ → ℕ) (k : ℕ) → sum f k + f k ≡ sum f (k + 1)
 unfolding sum

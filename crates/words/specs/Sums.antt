@@ -1,9 +1,9 @@
 -- Laws of sums, of concatenation and of what holds of every element. Over a list: sum-append, sum-map, sum-each, sum-agree, sum-each-same, sum-length, length-each,
 -- each_append, each_same, each_next, all-at, all_map, all_both, all_append, all-mapped, all-count, length-count, count_at.
 -- Over a range: sum-zero, sum-add, sum-le, sum_same, sum_first, sum-count (a sum over count_from is one over the range). Of both: sum-most, sum-swap, sum-once.
-use Rattle.std.specs.Prelude.{Bool, true, false, List, [], ◌∷◌, ◌++◌, map, ◌≡◌, refl, ℕ, zero, suc, ◌+◌, ◌*◌, ◌≤◌, ◌<◌, length, get_or, take}
+use Rattle.std.specs.Prelude.{Bool, true, false, List, [], ◌∷◌, ◌++◌, map, ◌≡◌, refl, ℕ, zero, suc, ◌+◌, ◌*◌, ◌≤◌, ◌<◌, length, get_or, take, if◌then◌else◌}
 use Rattle.std.proofs.Common.{append_assoc, append-nil, sym, ap, ◌∙◌, arith, length-append}
-use Rattle.words.specs.Words.{if◌then◌else◌, sum_of, sum, each_of, count_from, All}
+use Rattle.words.specs.Words.{sum_of, sum, each_of, count_from, All}
 use Rattle.words.specs.Choice.{by-test}
 
 -- ---- over a list

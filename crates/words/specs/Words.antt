@@ -1,12 +1,11 @@
 -- Plain words for the definitions.
 --   _≤?_ _<?_ _=?_    tests on numbers, true or false
---   if◌then◌else◌     a choice
 --   sum_of, sum        sums over a list and over 0 .. n - 1
 --   each_of            what each element of a list gives, one after the other
 --   those             the elements of a list that pass a test
 --   count_from         a, a + 1, ..
 --   every, All        a test that every element passes, a fact that holds of every element
-use Rattle.std.specs.Prelude.{Bool, true, false, ◌&&◌, List, [], ◌∷◌, ◌++◌, ℕ, zero, suc, ◌+◌, leb, ltb, eqb}
+use Rattle.std.specs.Prelude.{Bool, true, ◌&&◌, List, [], ◌∷◌, ◌++◌, ℕ, zero, suc, ◌+◌, leb, ltb, eqb, if◌then◌else◌}
 
 -- tests on numbers
 infix 45 ◌≤?◌ ◌<?◌ ◌=?◌
@@ -18,12 +17,6 @@ a <? b = ltb a b
 
 abbrev pub ◌=?◌ : ℕ → ℕ → Bool
 a =? b = eqb a b
-
--- a choice
-infix 20 if◌then◌else◌
-abbrev pub if◌then◌else◌ : {A : Type 0} → Bool → A → A → A
-if◌then◌else◌ true a b = a
-if◌then◌else◌ false a b = b
 
 -- the sum of f over a list
 unfoldable pub sum_of : {A : Type 0} → (A → ℕ) → List A → ℕ

@@ -1,4 +1,6 @@
 // The writer of a report: the lines of a list put into the lent bytes, then the header.
+#![tactic(auto)]
+
 ghost use Rattle.std.specs.Prelude.{length};
 ghost use Rattle.lines.specs.Listing.{source};
 ghost use Rattle.lines.specs.Promise.{Writable, ReportPut};
