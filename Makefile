@@ -10,8 +10,7 @@
 # make bench           times of the library, of the second implementation and of a yardstick
 .PHONY: demo test library python clean
 
-# The prover, its temporary files in memory where there is room.
-RT = TMPDIR=$$(.ci/temporary) rt
+RT = rt
 
 demo: target/demo
 	@echo 'Published schedule; one ungraded name with two assets of 3,000,000.00, kinds 11 and 6.'
@@ -21,24 +20,30 @@ demo: target/demo
 target/demo: crates.txt $(wildcard crates/*/src/*.rt)
 	@mkdir -p target
 	@echo 'Proving the desk; this takes some minutes the first time.'
-	@$(RT) check desk >target/demo.log 2>&1 || { cat target/demo.log; exit 1; }
+	@$(MAKE) --no-print-directory target/bin/desk >target/demo.log 2>&1 || { cat target/demo.log; exit 1; }
 	@touch target/demo
 
-# The proofs come first, since what they leave in target/ is what the tests link; the last line is rt ci's own, shown again.
-# Four at a time, up to 8 GB: rt waits for the last of a batch, and three dear crates stand on one level (docs/DECISIONS.md). RT_JOBS=2 takes less memory.
+# The proofs come first: 'rt ci' over every crate, its must-fail edits and the program. An edit that it calls bad fails too.
+# What it leaves in crates/*/out is what the library and the program are built from for the tests; its last line is shown again.
 test:
-	@log=$$(mktemp) && { RT_JOBS=$${RT_JOBS:-4} $(RT) ci 2>&1; echo $$? >$$log.status; } | tee $$log \
-	    && test "$$(cat $$log.status)" = 0 && $(MAKE) --no-print-directory -j2 -Otarget tests && tail -n 1 $$log && rm -f $$log $$log.status
+	@log=$$(mktemp) && { $(RT) ci 2>&1; echo $$? >$$log.status; } | tee $$log \
+	    && test "$$(cat $$log.status)" = 0 && ! grep -Eq '^rt: ok.*, [0-9]+ bad' $$log \
+	    && $(MAKE) --no-print-directory -j2 -Otarget tests && tail -n 1 $$log && rm -f $$log $$log.status
 
 include tests/tests.mk
 
 library: target/staticlib/libweightrose.a
 
+# rt proves first what is not proved yet.
 target/staticlib/libweightrose.a: crates.txt $(wildcard crates/*/src/*.rt)
-	$(RT) staticlib weightrose
+	cd crates/weightrose && $(RT) lib
+	mkdir -p target/staticlib
+	cp crates/weightrose/out/libweightrose.a $@
 
 target/bin/desk: crates.txt $(wildcard crates/*/src/*.rt)
-	$(RT) check desk
+	cd crates/desk && $(RT) run <stdin
+	mkdir -p target/bin
+	cp crates/desk/out/desk $@
 
 python: python/weightrose/libweightrose.so
 
@@ -46,4 +51,4 @@ python/weightrose/libweightrose.so: $(SHARED_LIB)
 	cp $< $@
 
 clean:
-	rm -rf target python/weightrose/libweightrose.so
+	rm -rf target crates/*/out python/weightrose/libweightrose.so
