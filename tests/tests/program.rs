@@ -30,7 +30,7 @@ fn printed(input: &[u8]) -> String {
         .stdin(Stdio::piped())
         .stdout(Stdio::piped())
         .spawn()
-        .expect("target/bin/desk: 'rt check desk' makes it");
+        .expect("target/bin/desk: 'make target/bin/desk' makes it");
     let mut stdin = child.stdin.take().unwrap();
     let output = thread::scope(|scope| {
         scope.spawn(move || stdin.write_all(input));
