@@ -17,7 +17,7 @@ use rows::COLUMNS;
 fn capped(exposure: u64, limit: u64) -> u64
     ensures { result ≡ min exposure limit }
 {
-    choice::lesser(exposure, limit)
+    exposure.min(limit)
 }
 
 // What of group number k counts: tiers 1 and 3 to 6, each up to its limit.
@@ -40,10 +40,8 @@ pub fn sum(cells: &[u64], limits: [u64; TIERS], groups: usize) -> u64
     ensures { (result ≡ sum_below (λ k. a3_part (a3_at cells.now k) (by_tier limits)) groups) × (result ≤ 3750 * M) }
 {
     let mut total: u64 = 0;
-    let mut k = 0;
-    while k < groups {
+    for k in 0..groups {
         total += part(cells, limits, k);
-        k += 1;
     }
     total
 }

@@ -6,7 +6,7 @@ ghost use Rattle.book.specs.Records.{header_size};
 ghost use Rattle.book.specs.Check.{counts_fit, amounts_fit, header_check, records_check, book_check};
 ghost use Rattle.book.specs.Accepted.{HeaderFits};
 
-use refusal::{Checked, Refusal};
+use refusal::Refusal;
 
 // The base's bounds: -M and M.
 const MOST_BASE: i64 = wire::M as i64;
@@ -34,23 +34,21 @@ fn amounts_fit(b: &[u8]) -> bool
     (h.total <= wire::M) & (h.excluded <= wire::M) & (LEAST_BASE <= h.base) & (h.base <= MOST_BASE)
 }
 
-fn header_check(b: &[u8]) -> Checked
+#[tactic(auto, using(refusal::specs::Laws::then_err, refusal::specs::Laws::then_ok), unfolding(book::specs::Check::header_check))]
+fn header_check(b: &[u8]) -> Result<(), Refusal>
     requires { header_size ≤ length b.now }
     ensures { result ≡ header_check b.now }
 {
-    let mark = refusal::unless(Refusal::BookMark, header::marked(b));
-    let version = refusal::unless(Refusal::BookVersion, header::version_known(b));
-    let counts = refusal::unless(Refusal::BookCounts, counts_fit(b));
-    let amounts = refusal::unless(Refusal::BookAmounts, amounts_fit(b));
-    refusal::and_then(
-        mark,
-        refusal::and_then(version, refusal::and_then(counts, amounts)),
-    )
+    refusal::unless(Refusal::BookMark, header::marked(b))?;
+    refusal::unless(Refusal::BookVersion, header::version_known(b))?;
+    refusal::unless(Refusal::BookCounts, counts_fit(b))?;
+    refusal::unless(Refusal::BookAmounts, amounts_fit(b))
 }
 
 // ---- the records, 10 to 13
 
-fn records_check(b: &[u8]) -> Checked
+#[tactic(auto, using(refusal::specs::Laws::then_err, refusal::specs::Laws::then_ok), unfolding(book::specs::Check::records_check, book::specs::Check::counts_check))]
+fn records_check(b: &[u8]) -> Result<(), Refusal>
     requires { HeaderFits b.now }
     ensures { result ≡ records_check b.now }
 {
@@ -58,42 +56,27 @@ fn records_check(b: &[u8]) -> Checked
     let c = h.counterparties;
     let n = h.assets as usize;
     let k = h.mitigants as usize;
-    let section = header::assets_of(b);
-    let counterparties = records::counterparties_check(b, c as usize);
-    let assets = records::assets_check(b, c, n, section);
-    let mitigants = records::mitigants_check(b, c, k, header::mitigants_start(h));
-    let counts = refusal::unless(
+    let assets = header::assets_of(b);
+    records::counterparties_check(b, c as usize)?;
+    records::assets_check(b, c, n, assets)?;
+    records::mitigants_check(b, c, k, header::mitigants_start(h))?;
+    refusal::unless(
         Refusal::MitigantCounts,
-        records::counts_add(b, n, section) == k,
-    );
-    refusal::and_then(
-        counterparties,
-        refusal::and_then(assets, refusal::and_then(mitigants, counts)),
+        records::counts_add(b, n, assets) == k,
     )
 }
 
 // ---- the whole book, 5 to 13 and 17
 
 // The first refusal of a byte string, or none: then it is a book that `Accepted` describes.
-pub fn check(b: &[u8]) -> Checked
+pub fn check(b: &[u8]) -> Result<(), Refusal>
     ensures { result ≡ book_check b.now }
 {
     if b.len() < book::HEADER_SIZE {
-        return Checked::Bad(Refusal::BookLength);
+        return Err(Refusal::BookLength);
     }
-    let header = header_check(b);
-    match header {
-        Checked::Bad(why) => Checked::Bad(why),
-        Checked::Fine => {
-            let h = header::header_at(b);
-            let records = records_check(b);
-            let entries = records::specialist_check(
-                b,
-                h.specialist,
-                h.assets as usize,
-                header::assets_of(b),
-            );
-            refusal::and_then(records, entries)
-        }
-    }
+    header_check(b)?;
+    records_check(b)?;
+    let h = header::header_at(b);
+    records::specialist_check(b, h.specialist, h.assets as usize, header::assets_of(b))
 }

@@ -11,6 +11,7 @@ const MOST: usize = 200;
 pub const QUESTION: usize = 3;
 
 // Whether a place and a kind are in range, where there are c counterparties.
+#[tactic(auto, unfolding(crate::specs::Questions::good_question))]
 fn good_question(place: u16, kind: u8, c: u16) -> bool
     ensures { result ≡ good_question c place kind }
 {
@@ -22,28 +23,17 @@ fn all_good(questions: &[u8], n: usize, c: u16) -> bool
     requires { (n ≤ most_questions) × (question_size * n ≤ length questions.now) }
     ensures { result ≡ all_below n (λ k. good_question c (place_at questions.now k) (kind_at questions.now k)) }
 {
-    let mut k = 0;
-    while k < n {
+    (0..n).all(|k| {
         let place = wire::u16_at(questions, QUESTION * k);
-        let kind = questions[QUESTION * k + 2];
-        if !good_question(place, kind, c) {
-            return false;
-        }
-        k += 1;
-    }
-    true
+        good_question(place, questions[QUESTION * k + 2], c)
+    })
 }
 
 // Whether a list is one of up to MOST questions, all in range.
+#[tactic(auto, unfolding(crate::specs::Questions::good_list))]
 pub fn good_list(questions: &[u8], c: u16) -> bool
     ensures { result ≡ good_list c questions.now }
 {
     let n = questions.len() / QUESTION;
-    if MOST < n {
-        return false;
-    }
-    if questions.len() != QUESTION * n {
-        return false;
-    }
-    all_good(questions, n, c)
+    n <= MOST && questions.len() == QUESTION * n && all_good(questions, n, c)
 }

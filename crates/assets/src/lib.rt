@@ -33,12 +33,12 @@ pub fn share_of(a: Asset, from: u64) -> Share
     requires { (a.offsets ≤ M) × (a.deductions ≤ M) }
     ensures { Shared a from result }
 {
-    let net = choice::difference(from, a.offsets + a.deductions);
+    let net = from.saturating_sub(a.offsets + a.deductions);
     let linked = book::is_linked(a);
     Share {
         net,
-        linked: choice::amount(linked, net, 0),
-        rest: choice::amount(linked, 0, net),
+        linked: choice::pick(linked, net, 0),
+        rest: choice::pick(linked, 0, net),
     }
 }
 
@@ -47,9 +47,7 @@ pub fn treaty_column(a: Asset, terms: u64) -> u16
     requires { a.entry ≤ 3 }
     ensures { (result ≡ digit (age_of a.entry a.months) terms) × (result < 32) }
 {
-    let entry = a.entry as u64;
-    let months = a.months as u64;
-    columns::of_age(terms, entry, months) as u16
+    columns::of_age(terms, u64::from(a.entry), u64::from(a.months)) as u16
 }
 
 // The column of what remains of any other asset.
@@ -57,8 +55,7 @@ pub fn kind_column(a: Asset, word: u64) -> u16
     requires { (0 < a.kind) × (a.kind < 12) }
     ensures { (result ≡ digit (a.kind - 1) word) × (result < 32) }
 {
-    let kind = a.kind as u64;
-    columns::of_kind(word, kind) as u16
+    columns::of_kind(word, u64::from(a.kind)) as u16
 }
 
 // The sums with reinsurance more, of such a stressed value.
@@ -71,7 +68,7 @@ pub fn with_treaty(v: Values, a: Asset, s: Share, stressed: u64) -> Values
         linked: v.linked + s.linked,
         reinsurance: v.reinsurance + a.value,
         netted: v.netted + a.offsets,
-        stressed: v.stressed + choice::difference(stressed, a.offsets),
+        stressed: v.stressed + stressed.saturating_sub(a.offsets),
     }
 }
 
@@ -83,9 +80,7 @@ pub fn with_other(v: Values, s: Share) -> Values
     Values {
         all: v.all + s.net,
         linked: v.linked + s.linked,
-        reinsurance: v.reinsurance,
-        netted: v.netted,
-        stressed: v.stressed,
+        ..v
     }
 }
 
@@ -111,7 +106,7 @@ pub fn settle(
 pub fn treaty_draws(a: Asset, terms: u64) -> u16
     ensures { result ≡ (if terms / 2 ^ 60 % 2 =? 1 then a.counterparty else 0) }
 {
-    choice::number(columns::half_of(terms) == 1, a.counterparty, 0)
+    choice::pick(columns::half_of(terms) == 1, a.counterparty, 0)
 }
 
 // 2^62, above all that a book's assets can be together.
@@ -122,10 +117,8 @@ pub fn halve(sums: &mut [u64])
     requires { 0 < length sums.old }
     ensures { Halved sums.old sums.new }
 {
-    let mut place = 0;
-    while place < sums.len() {
-        sums[place] /= 2;
-        place += 1;
+    for sum in sums.iter_mut() {
+        *sum /= 2;
     }
     sums[0] = ENDLESS;
 }

@@ -1,4 +1,5 @@
 -- The bills that are written are those of the definitions, and they add up. The tables' desks have the desks' excesses (excess-is), which fit (excess-room).
+use Rattle.std.proofs.Common.{Ok}
 use mathlib.Core.Bool.{Bool, true, false}
 use mathlib.Core.List.{List, [], ◌++◌, append-nil}
 use mathlib.Core.Path.{◌≡◌, refl, sym, ap, ◌∙◌}
@@ -13,8 +14,6 @@ use Rattle.words.specs.Words.{sum, All}
 use Rattle.words.specs.Sums.{sum_same, all_map}
 use Rattle.words.specs.Ranges.{sum-within}
 use Rattle.wire.specs.Bytes.{placed}
-use Rattle.refusal.specs.declared.Checked.TheVariants.{Fine}
-use Rattle.refusal.specs.declared.Answer.TheVariants.{Written}
 use Rattle.rows.specs.Rows.{columns}
 use Rattle.figures.specs.Report.{charge}
 use Rattle.figures.specs.Read.{read_excess}
@@ -144,8 +143,8 @@ module _ (schedule b : List ℕ) (acc : Accepted b) (byte : (k : ℕ) → get_or
     pub desks-few : sum (by_desk desks) desk_count ≤ most_excess
     desks-few = omega (arith, sum_same (by_desk desks) (excess_in schedule b) desk_count x.each, sum-few)
 
-    pub billed : (rate : ℕ) (before : List ℕ) {after : List ℕ} → Passed schedule b → fund_check (book_of b) ≡ Fine → rate ≤ most_cost_rate → bills_size ≤ length before
-        → after ≡ placed before 0 (bill_bytes (by_desk desks) rate) → Billed schedule b rate before after (Written bills_size)
+    pub billed : (rate : ℕ) (before : List ℕ) {after : List ℕ} → Passed schedule b → fund_check (book_of b) ≡ Ok tt → rate ≤ most_cost_rate → bills_size ≤ length before
+        → after ≡ placed before 0 (bill_bytes (by_desk desks) rate) → Billed schedule b rate before after (Ok bills_size)
     unfolding bills_of
     billed rate before {after} p q h l put =
         let n : 0 + length (bill_bytes (excess_in schedule b) rate) ≡ bills_size = omega (arith, bills-length (excess_in schedule b) rate) in

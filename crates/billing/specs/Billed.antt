@@ -4,14 +4,11 @@
 --   bill_check bill_answer   the checks 1 to 17, 19 and 16; the bills' length, or a refusal
 --   bill_in AddUp           a bill as it is read; that bills, desks and lines add up
 --   Billed                 all that the entry promises
-use Rattle.std.specs.Prelude.{List, ◌≡◌, ℕ, ◌*◌, ◌/◌, length}
+use Rattle.std.specs.Prelude.{List, ◌≡◌, ℕ, ◌*◌, ◌/◌, length, Ok, Err}
 use Rattle.words.specs.Words.{◌≤?◌, sum}
 use Rattle.wire.specs.Bytes.{u64_at}
-use Rattle.refusal.specs.declared.Checked.{Checked}
-use Rattle.refusal.specs.declared.Answer.{Answer}
-use Rattle.refusal.specs.declared.Answer.TheVariants.{Written, Refused}
 use Rattle.refusal.specs.declared.Refusal.TheVariants.{BufferShort, CostRate}
-use Rattle.refusal.specs.Chain.{refuse◌unless◌, ◌and_then◌, answer_by}
+use Rattle.refusal.specs.Chain.{refuse◌unless◌, ◌and_then◌, answer_by, Answer, Checked}
 use Rattle.figures.specs.Read.{charge_in, read_excess}
 use Rattle.figures.specs.LeastCuts.{TierOf}
 use Rattle.bills.specs.Lines.{ExposureLine, amount_in, stands_in, excess_lines}
@@ -63,8 +60,8 @@ pub record AddUp (schedule book : List ℕ) (rate : ℕ) (R : List ℕ) : Type 0
 
 -- where there are bills
 abbrev pub AddUpBy : Answer → List ℕ → List ℕ → ℕ → List ℕ → Type 0
-AddUpBy (Written length) schedule book rate R = AddUp schedule book rate R
-AddUpBy (Refused why) schedule book rate R = Unit {0}
+AddUpBy (Ok length) schedule book rate R = AddUp schedule book rate R
+AddUpBy (Err why) schedule book rate R = Unit {0}
 
 -- what the entry promises of its answer r and of the lent buffer, `before` it and `after`
 pub record Billed (schedule book : List ℕ) (rate : ℕ) (before after : List ℕ) (r : Answer) : Type 0 where

@@ -1,9 +1,8 @@
 -- The tables that bills are made in.
 --   CellsLeft CellsBy   the cells behind the pass over the lines
 --   Excesses            the desks' excesses, and the cells
-use Rattle.std.specs.Prelude.{List, ◌≡◌, ℕ, ◌<◌, length}
-use Rattle.refusal.specs.declared.Answer.{Answer}
-use Rattle.refusal.specs.declared.Answer.TheVariants.{Written, Refused}
+use Rattle.refusal.specs.Chain.{Answer}
+use Rattle.std.specs.Prelude.{List, ◌≡◌, ℕ, ◌<◌, length, Ok, Err}
 use Rattle.bills.specs.Bills.{desk_count}
 use Rattle.bills.specs.Tables.{by_desk, still_after}
 use Rattle.standing.specs.Standing.{Stood}
@@ -20,8 +19,8 @@ pub record CellsLeft (book : List ℕ) (groups : ℕ) (f : Fund) (covered rests 
 
 -- as they were, where there are no bills
 abbrev pub CellsBy : Answer → List ℕ → ℕ → Fund → List ℕ → List ℕ → List ℕ → List ℕ → Type 0
-CellsBy (Written length) book groups f covered rests cells₀ cells = CellsLeft book groups f covered rests cells₀ cells
-CellsBy (Refused why) book groups f covered rests cells₀ cells = cells ≡ cells₀
+CellsBy (Ok length) book groups f covered rests cells₀ cells = CellsLeft book groups f covered rests cells₀ cells
+CellsBy (Err why) book groups f covered rests cells₀ cells = cells ≡ cells₀
 
 pub record Excesses (schedule book : List ℕ) (groups : ℕ) (f : Fund) (covered rests cells₀ cells desks : List ℕ) : Type 0 where
   pub size : length desks ≡ desk_count

@@ -8,7 +8,7 @@ ghost use Rattle.billing.specs.Billed.{Billed};
 ghost use Rattle.billing.specs.Tables.{CellsBy, Excesses};
 
 use fund::Fund;
-use refusal::{Answer, Refusal};
+use refusal::Refusal;
 
 // The desks' excesses, in a table of zeros: the A3 excess is desk 0's, and what of each line does not stand is its desk's.
 fn excesses(
@@ -30,14 +30,11 @@ fn excesses(
     let limits = f.limits;
     let ranking = f.ranking;
     let figures = f.figures;
-    let h = header::header_at(book);
-    let n = h.assets as usize;
-    let first = header::assets_of(book);
-    let behind = header::mitigants_start(h);
-    desks[0] = choice::difference(figures.a3_sum, figures.a3_limit);
+    let sections = header::sections_of(book);
+    desks[0] = figures.a3_sum.saturating_sub(figures.a3_limit);
     standing::stand(cells, groups, limits, ranking);
     serving::serve(
-        book, first, behind, n, words, rows, places, covered, rests, cells, desks,
+        book, sections, words, rows, places, covered, rests, cells, desks,
     );
 }
 
@@ -55,21 +52,21 @@ pub fn finish(
     rests: &[u64],
     cells: &mut [u64],
     bills: &mut [u8],
-) -> Answer
+) -> Result<usize, Refusal>
     requires { FundTables schedule.now book.now groups f words.now rows.now places.now covered.now rests.now cells.old }
     ensures tables { CellsBy result book.now groups f covered.now rests.now cells.old cells.new }
     ensures billed { Billed schedule.now book.now rate bills.old bills.new result }
 {
     if bills::MOST_RATE < rate {
-        return Answer::Refused(Refusal::CostRate);
+        return Err(Refusal::CostRate);
     }
     if bills.len() < bills::SIZE {
-        return Answer::Refused(Refusal::BufferShort);
+        return Err(Refusal::BufferShort);
     }
     let mut desks = [0u64; bills::DESKS];
     excesses(
         schedule, book, groups, f, words, rows, places, covered, rests, cells, &mut desks,
     );
     bills::put(&desks, rate, bills);
-    Answer::Written(bills::SIZE)
+    Ok(bills::SIZE)
 }

@@ -24,8 +24,8 @@ pub fn serve(still: &mut [u64], desks: &mut [u64], cell: usize, amount: u64, des
     ensures { LineServed cell amount desk still.old still.new desks.old desks.new }
 {
     let left = still[cell];
-    still[cell] = choice::difference(left, amount);
-    desks[desk] += choice::difference(amount, left);
+    still[cell] = left.saturating_sub(amount);
+    desks[desk] += amount.saturating_sub(left);
 }
 
 // Each desk's bill, desk by desk from 0: the cost of the running excess, less that cost before the desk. No byte behind them changes.
@@ -35,12 +35,10 @@ pub fn put(excesses: &[u64], rate: u64, bills: &mut [u8])
 {
     let mut running: u64 = 0;
     let mut before: u64 = 0;
-    let mut d = 0;
-    while d < DESKS {
+    for d in 0..DESKS {
         running += excesses[d];
         let cost = running * rate / TEN_THOUSAND;
         placing::put_u64(bills, 8 * d, cost - before);
         before = cost;
-        d += 1;
     }
 }

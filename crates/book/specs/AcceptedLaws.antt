@@ -1,13 +1,12 @@
 -- A book that refusals 5 to 13 and 17 let pass is an accepted one.
 --   header-fits   what refusals 6 to 9 leave of a header
 --   accepted      what refusals 5 to 13 and 17 leave of a book
-use Rattle.std.specs.Prelude.{Bool, true, false, ◌||◌, List, [], ◌∷◌, ◌≡◌, ℕ, ◌+◌, ◌-◌, ◌/◌, ◌%◌, ◌≤◌, ◌<◌, ℤ, pos, negsuc, neg_ℤ, length, if◌then◌else◌}
+use Rattle.std.specs.Prelude.{Bool, true, false, ◌||◌, List, [], ◌∷◌, ◌≡◌, ℕ, ◌+◌, ◌-◌, ◌/◌, ◌%◌, ◌≤◌, ◌<◌, ℤ, pos, negsuc, neg_ℤ, length, if◌then◌else◌, Ok}
 use Rattle.std.proofs.Common.{arith, leb-true, ltb-true, eqb-true}
 use Rattle.std.specs.Int.Signed.{le_z}
 use Rattle.words.specs.Words.{◌≤?◌, ◌<?◌, ◌=?◌}
 use Rattle.words.specs.Choice.{both, each-true, never}
 use Rattle.wire.specs.Bytes.{M, byte_at, u16_at}
-use Rattle.refusal.specs.declared.Checked.TheVariants.{Fine}
 use Rattle.refusal.specs.declared.Refusal.{Refusal}
 use Rattle.refusal.specs.declared.Refusal.TheVariants.{BookLength, BookMark, BookVersion, BookCounts, BookAmounts, MitigantCounts, SpecialistEntry}
 use Rattle.refusal.specs.Chain.{refuse◌unless◌, ◌and_then◌}
@@ -24,7 +23,7 @@ within : (z : ℤ) → le_z (neg_ℤ (pos M)) z ≡ true → le_z z (pos M) ≡ 
 within (pos n) l h = leb-true n M h
 within (negsuc n) l h = omega (arith, leb-true n (M - 1) l)
 
-pub header-fits : (b : List ℕ) → header_check b ≡ Fine → HeaderFits b
+pub header-fits : (b : List ℕ) → header_check b ≡ Ok tt → HeaderFits b
 unfolding header_check
 header-fits b e =
     let counts = refuse BookCounts unless counts_fit b in
@@ -100,7 +99,7 @@ allowed true a t e = t
 allowed false a t e = never (rw e at t)
 
 -- ---- the book
-pub accepted : (b : List ℕ) → book_check b ≡ Fine → Accepted b
+pub accepted : (b : List ℕ) → book_check b ≡ Ok tt → Accepted b
 unfolding book_check records_check counterparties_check assets_check mitigants_check counts_check specialist_check
 accepted b e =
     let e0 = then-rest (refuse BookLength unless header_size ≤? length b) (header_check b and_then records_check b and_then specialist_check b) e in

@@ -5,8 +5,7 @@
 use Rattle.std.specs.Prelude.{List, [], ◌∷◌, ◌++◌, ℕ, ◌+◌, ◌*◌, length, set}
 use Rattle.words.specs.Words.{sum_of, each_of}
 use Rattle.wire.specs.Bytes.{u16_at, u64_at, i64_at, bytes16, bytes64}
-use Rattle.refusal.specs.declared.Checked.{Checked}
-use Rattle.refusal.specs.Chain.{first_bad}
+use Rattle.refusal.specs.Chain.{first_bad, Checked}
 use Rattle.book.specs.Records.{header_at, counterparty_at, asset_from, mitigant_at}
 use Rattle.book.specs.Book.{mitigants_from, holdings_from, book_of, parent_of, top_in, top_of}
 use Rattle.book.specs.Check.{good_counterparty, good_asset, good_mitigant, counts_add, header_check, counterparties_check, assets_check, mitigants_check, counts_check, records_check, specialist_check, book_check}

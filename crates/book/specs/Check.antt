@@ -9,10 +9,9 @@ use Rattle.std.specs.Prelude.{Bool, not, ◌&&◌, ◌||◌, List, ℕ, ◌+◌,
 use Rattle.std.specs.Int.Signed.{le_z}
 use Rattle.words.specs.Words.{◌≤?◌, ◌<?◌, ◌=?◌, sum_of}
 use Rattle.wire.specs.Bytes.{M, byte_at, u16_at}
-use Rattle.refusal.specs.declared.Checked.{Checked}
 use Rattle.refusal.specs.declared.Refusal.{Refusal}
 use Rattle.refusal.specs.declared.Refusal.TheVariants.{BookLength, BookMark, BookVersion, BookCounts, BookAmounts, MitigantCounts, SpecialistEntry}
-use Rattle.refusal.specs.Chain.{refuse◌unless◌, ◌and_then◌, refuse_each}
+use Rattle.refusal.specs.Chain.{refuse◌unless◌, ◌and_then◌, refuse_each, Checked}
 use Rattle.book.specs.declared.Asset.{Asset}
 use Rattle.book.specs.declared.Mitigant.{Mitigant}
 use Rattle.book.specs.Records.{header_size, most_counterparties, most_assets, most_mitigants, version, C, N, K, specialist, total, base, excluded, book_size, counterparty_start, asset_at, mitigant_at}

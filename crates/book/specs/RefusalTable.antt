@@ -5,11 +5,10 @@
 --   versions    what a version makes of bytes 6 and 7 of an asset
 --   specialists both sides of each edge of 17 and of what a specialist fund may have
 --   two-faults  the lower number and the first record win, 17 behind 13
-use Rattle.std.specs.Prelude.{Bool, ◌&&◌, List, [], ◌∷◌, ◌++◌, map, ◌≡◌, refl, ℕ, ◌+◌, ◌-◌, T, set, take, replicate}
+use Rattle.refusal.specs.Chain.{Checked}
+use Rattle.std.specs.Prelude.{Bool, ◌&&◌, List, [], ◌∷◌, ◌++◌, map, ◌≡◌, refl, ℕ, ◌+◌, ◌-◌, T, set, take, replicate, Ok, Err}
 use Rattle.words.specs.Words.{◌=?◌, every}
 use Rattle.wire.specs.Bytes.{M}
-use Rattle.refusal.specs.declared.Checked.{Checked}
-use Rattle.refusal.specs.declared.Checked.TheVariants.{Fine, Bad}
 use Rattle.refusal.specs.Refusals.{number_of, place_of}
 use Rattle.book.specs.Records.{asset_at}
 use Rattle.book.specs.Check.{book_check}
@@ -29,8 +28,8 @@ abbrev fine : List ℕ → Case
 fine b = b gives 0 at 0
 
 abbrev answers : Checked → ℕ → ℕ → Bool
-answers Fine number place = number =? 0 && place =? 0
-answers (Bad why) number place = number_of why =? number && place_of why =? place
+answers (Ok _) number place = number =? 0 && place =? 0
+answers (Err why) number place = number_of why =? number && place_of why =? place
 
 unfoldable pub right : Case → Bool
 right c = answers (book_check c.book) c.number c.place

@@ -28,13 +28,43 @@ pub const MOST_ASSETS: usize = 900;
 pub const MOST_MITIGANTS: usize = 1500;
 
 // The kind of a counterparty.
-#[derive(Clone, Copy)]
+#[derive(Clone, Copy, Debug, PartialEq, Eq)]
 pub enum Kind {
     Other,
     Bank,
     HomeGovernment,
     ProvincialGovernment,
     LifeCompany,
+}
+
+// The kind of a number; of one that no kind has, other.
+impl From<u8> for Kind {
+    ghost from_gives = { λ n kind. kind ≡ kind_of n };
+
+    fn from(n: u8) -> Kind {
+        match n {
+            1 => Kind::Bank,
+            2 => Kind::HomeGovernment,
+            3 => Kind::ProvincialGovernment,
+            4 => Kind::LifeCompany,
+            _ => Kind::Other,
+        }
+    }
+}
+
+// The number of a kind.
+impl From<Kind> for u8 {
+    ghost from_gives = { λ kind n. n ≡ kind_number kind };
+
+    fn from(kind: Kind) -> u8 {
+        match kind {
+            Kind::Other => 0,
+            Kind::Bank => 1,
+            Kind::HomeGovernment => 2,
+            Kind::ProvincialGovernment => 3,
+            Kind::LifeCompany => 4,
+        }
+    }
 }
 
 // What a header says after its mark and version.
@@ -102,19 +132,6 @@ pub fn low_four(b: u8) -> u8
     b & 15
 }
 
-// The kind of a number.
-fn kind_of(n: u8) -> Kind
-    ensures { result ≡ kind_of n }
-{
-    match n {
-        1 => Kind::Bank,
-        2 => Kind::HomeGovernment,
-        3 => Kind::ProvincialGovernment,
-        4 => Kind::LifeCompany,
-        _ => Kind::Other,
-    }
-}
-
 // Where the counterparty of a place starts.
 pub fn counterparty_start(place: usize) -> usize
     requires { (0 < place) × (place < 65536) }
@@ -124,15 +141,15 @@ pub fn counterparty_start(place: usize) -> usize
 }
 
 // The counterparty of a place.
+#[tactic(auto, unfolding(crate::specs::Records::counterparty_at))]
 pub fn counterparty_at(b: &[u8], place: usize) -> Counterparty
     requires { (0 < place) × (place < 65536) × (header_size + counterparty_size * place ≤ length b.now) }
     ensures { result ≡ counterparty_at b.now place }
 {
     let at = counterparty_start(place);
-    let kind = kind_of(high_four(b[at + 2]));
     Counterparty {
         parent: wire::u16_at(b, at),
-        kind,
+        kind: Kind::from(high_four(b[at + 2])),
         grade: low_four(b[at + 2]),
         flags: b[at + 3],
     }
@@ -150,7 +167,7 @@ fn asset_from(b: &[u8], at: usize, counts: u16) -> Asset
         months: b[at + 3],
         counterparty: wire::u16_at(b, at + 4),
         count: wire::masked_at(b, at + 6, counts),
-        desk: choice::byte(counts == ONE_BYTE, b[at + 7], 0),
+        desk: choice::pick(counts == ONE_BYTE, b[at + 7], 0),
         value: wire::u64_at(b, at + 8),
         offsets: wire::u64_at(b, at + 16),
         deductions: wire::u64_at(b, at + 24),
@@ -168,6 +185,7 @@ pub fn asset_at(b: &[u8], assets: Assets, place: usize) -> Asset
 }
 
 // The mitigant of a place, where the mitigants start at `start`.
+#[tactic(auto, unfolding(crate::specs::Records::mitigant_at))]
 pub fn mitigant_at(b: &[u8], start: usize, place: usize) -> Mitigant
     requires { (start ≡ mitigants_start b.now) × (0 < place) × (place < 65536) × (start + mitigant_size * place ≤ length b.now) }
     ensures { result ≡ mitigant_at b.now place }
@@ -189,23 +207,10 @@ pub fn has_bit(b: u8, n: u8) -> bool
     (b >> n) & 1 == 1
 }
 
-// The number of a kind.
-pub fn kind_number(k: Kind) -> u8
-    ensures { result ≡ kind_number k }
-{
-    match k {
-        Kind::Other => 0,
-        Kind::Bank => 1,
-        Kind::HomeGovernment => 2,
-        Kind::ProvincialGovernment => 3,
-        Kind::LifeCompany => 4,
-    }
-}
-
 pub fn is_graded(who: Counterparty) -> bool
     ensures { result ≡ graded who }
 {
-    (1 <= who.grade) & (who.grade <= 3)
+    (1..=3).contains(&who.grade)
 }
 
 pub fn is_related(who: Counterparty) -> bool

@@ -1,7 +1,6 @@
 -- The refusals of a book by itself, "Checked by rising number", and 17 "after 13": book_checks.
 use Rattle.std.specs.Prelude.{List, ℕ}
-use Rattle.refusal.specs.declared.Checked.{Checked}
-use Rattle.refusal.specs.Chain.{◌and_then◌}
+use Rattle.refusal.specs.Chain.{◌and_then◌, Checked}
 use Rattle.book.specs.Book.{book_of}
 use Rattle.book.specs.Check.{book_check}
 use Rattle.exposure.specs.Values.{fund_check}

@@ -4,15 +4,13 @@
 ghost use Rattle.std.specs.Prelude.{◌≡◌};
 ghost use Rattle.book_checks.specs.Checks.{book_checks};
 
-use refusal::Checked;
+use refusal::Refusal;
 
 // The first refusal of a book that is none of its schedule's or its buffer's.
-pub fn check(b: &[u8]) -> Checked
+#[tactic(auto, using(refusal::specs::Laws::then_err, refusal::specs::Laws::then_ok), unfolding(crate::specs::Checks::book_checks))]
+pub fn check(b: &[u8]) -> Result<(), Refusal>
     ensures { result ≡ book_checks b.now }
 {
-    let records = admit::check(b);
-    match records {
-        Checked::Bad(why) => Checked::Bad(why),
-        Checked::Fine => book_values::check_book(b),
-    }
+    admit::check(b)?;
+    book_values::check_book(b)
 }

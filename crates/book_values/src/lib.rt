@@ -7,10 +7,10 @@ ghost use Rattle.book.specs.Accepted.{Accepted};
 ghost use Rattle.exposure.specs.Values.{fund_check};
 
 use assets::Values;
-use refusal::Checked;
+use refusal::Refusal;
 
 // Both sums of reinsurance in one pass over the assets, and what `values` finds of them.
-pub fn check_book(b: &[u8]) -> Checked
+pub fn check_book(b: &[u8]) -> Result<(), Refusal>
     requires { Accepted b.now }
     ensures { result ≡ fund_check (book_of b.now) }
 {
@@ -19,14 +19,12 @@ pub fn check_book(b: &[u8]) -> Checked
     let assets = header::assets_of(b);
     let mut values = 0;
     let mut stressed = 0;
-    let mut place = 1;
-    while place <= n {
+    for place in 1..n + 1 {
         let a = book::asset_at(b, assets, place);
         let treaty = book::is_reinsurance(a);
-        let above = choice::difference(exposure::stressed_of(a), a.offsets);
-        values += choice::amount(treaty, a.value, 0);
-        stressed += choice::amount(treaty, above, 0);
-        place += 1;
+        let above = exposure::stressed_of(a).saturating_sub(a.offsets);
+        values += choice::pick(treaty, a.value, 0);
+        stressed += choice::pick(treaty, above, 0);
     }
     values::check_sums(b, values, stressed)
 }

@@ -1,8 +1,8 @@
 -- C-14, "Capital cost per desk": lines' and desks' excesses and the bills, computed from bytes to bytes; the answers, and what stands in the lent buffer.
+use Rattle.refusal.specs.Chain.{Answer}
 use Rattle.std.specs.Prelude.{Bool, ◌&&◌, List, [], ◌∷◌, map, ℕ, ◌*◌, ◌/◌, T, length, set, take, drop, replicate}
 use Rattle.words.specs.Words.{◌=?◌, sum_of, every, count_from}
 use Rattle.wire.specs.Amounts.{amounts_bytes}
-use Rattle.refusal.specs.declared.Answer.{Answer}
 use Rattle.book.specs.Build.{counterparty, desk_asset, mitigant, desk_bytes}
 use Rattle.figures.specs.Read.{line_at, lines_in, charge_in}
 use Rattle.bills.specs.Lines.{ExposureLine, amount_in, tier_excess, stands_in, excess_lines}

@@ -1,10 +1,10 @@
 -- C-16, "How much more may be bought": answers computed from bytes to bytes, each held against the charge; the refusals, and what stands in the lent buffer.
+use Rattle.refusal.specs.Chain.{Answer}
 use Rattle.std.specs.Prelude.{Bool, ◌&&◌, ◌||◌, List, [], ◌∷◌, ◌++◌, ℕ, ◌+◌, ◌*◌, T, length, take, drop, replicate}
 use Rattle.words.specs.Words.{◌<?◌, ◌=?◌, each_of, every, count_from}
 use Rattle.words.specs.Below.{all_below}
 use Rattle.wire.specs.Bytes.{M, bytes16, placed}
 use Rattle.wire.specs.Amounts.{amounts_bytes}
-use Rattle.refusal.specs.declared.Answer.{Answer}
 use Rattle.book.specs.Build.{counterparty, mitigant, book_bytes}
 use Rattle.cascade.specs.Cut.{stands}
 use Rattle.figures.specs.Report.{charge}

@@ -1,9 +1,8 @@
 -- C-19: the answers to movements, computed from `movement_check` itself: numbers and places in their order, under the published schedule and with room for any report.
-use Rattle.std.specs.Prelude.{Bool, ◌&&◌, List, [], ◌∷◌, ◌++◌, ℕ, T, take, replicate, set}
+use Rattle.refusal.specs.Chain.{Checked}
+use Rattle.std.specs.Prelude.{Bool, ◌&&◌, List, [], ◌∷◌, ◌++◌, ℕ, T, take, replicate, set, Ok, Err}
 use Rattle.words.specs.Words.{◌=?◌, every}
 use Rattle.wire.specs.Bytes.{M}
-use Rattle.refusal.specs.declared.Checked.{Checked}
-use Rattle.refusal.specs.declared.Checked.TheVariants.{Fine, Bad}
 use Rattle.refusal.specs.Refusals.{number_of, place_of}
 use Rattle.book.specs.Build.{counterparty, asset, desk_asset, mitigant, book_bytes, desk_bytes}
 use Rattle.book_checks.specs.Checks.{book_checks}
@@ -24,8 +23,8 @@ abbrev ◌after◌gives◌at◌ : List ℕ → Movement → ℕ → ℕ → Case
 b after m gives n at p = record { buffer = b; movement = m; number = n; place = p }
 
 abbrev answers : Checked → ℕ → ℕ → Bool
-answers Fine number place = number =? 0 && place =? 0
-answers (Bad why) number place = number_of why =? number && place_of why =? place
+answers (Ok _) number place = number =? 0 && place =? 0
+answers (Err why) number place = number_of why =? number && place_of why =? place
 
 unfoldable right : Case → Bool
 right c = answers (movement_check published_bytes c.movement c.buffer 65536) c.number c.place

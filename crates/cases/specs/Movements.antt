@@ -1,14 +1,11 @@
 -- C-19, "Movements through the day": answers and both lent buffers, computed from bytes to bytes; and what a hasty reader would make of it, each reading told apart by a case.
 -- Numbers and places in their order are in MovementAnswers, the bytes of single movements in day.specs.MovementTable.
-use Rattle.std.specs.Prelude.{Bool, not, ◌&&◌, List, [], ◌∷◌, ◌++◌, ℕ, ◌+◌, ◌*◌, ◌-◌, T, length, take, drop, replicate}
+use Rattle.std.specs.Prelude.{Bool, not, ◌&&◌, List, [], ◌∷◌, ◌++◌, ℕ, ◌+◌, ◌*◌, ◌-◌, T, length, take, drop, replicate, Ok, Err}
 use Rattle.words.specs.Words.{◌≤?◌, ◌=?◌, every}
 use Rattle.wire.specs.Bytes.{u64_at, bytes64, placed}
-use Rattle.refusal.specs.declared.Checked.{Checked}
-use Rattle.refusal.specs.declared.Checked.TheVariants.{Fine, Bad}
 use Rattle.refusal.specs.declared.Refusal.TheVariants.{BufferShort, Movement as absent}
-use Rattle.refusal.specs.declared.Answer.{Answer}
 use Rattle.refusal.specs.Refusals.{number_of, place_of}
-use Rattle.refusal.specs.Chain.{refuse◌unless◌, ◌and_then◌}
+use Rattle.refusal.specs.Chain.{refuse◌unless◌, ◌and_then◌, Answer, Checked}
 use Rattle.schedule.specs.Check.{schedule_check}
 use Rattle.book.specs.Records.{asset_size, N, K, total, asset_start, mitigant_start, asset_at}
 use Rattle.book.specs.Build.{desk_asset, mitigant, desk_bytes}
@@ -186,8 +183,8 @@ abbrev whole_buffer : Reading
 whole_buffer s m b room = schedule_check s and_then book_checks b and_then there b m and_then book_checks (resulting b m) and_then fits s (resulting b m) b room
 
 abbrev found : Checked → List ℕ
-found Fine = []
-found (Bad why) = number_of why ∷ place_of why ∷ []
+found (Ok _) = []
+found (Err why) = number_of why ∷ place_of why ∷ []
 
 record Misread : Type 0 where
   reading : Reading

@@ -53,13 +53,11 @@ pub fn fold(cells: &mut [u64], groups: usize) -> Sums
 {
     let mut w = 0;
     let mut free = 0;
-    let mut k = 0;
-    while k < groups {
+    for k in 0..groups {
         let at = COLUMNS * k;
         w += cells[at + BILLS];
         free += cells[at + NO_LIMIT];
         fold_row(cells, at);
-        k += 1;
     }
     Sums { w, free }
 }

@@ -209,6 +209,7 @@ fn terms_at(class: u64) -> u64
 }
 
 // The columns of all exposures to a counterparty but reinsurance (`word-kind`, `word-form`).
+#[tactic(auto, unfolding(columns::specs::Column::word_of))]
 pub fn word_of(who: Counterparty) -> u64
     requires { who.flags < 8 }
     ensures { result ≡ word_of who }
@@ -217,6 +218,7 @@ pub fn word_of(who: Counterparty) -> u64
 }
 
 // The columns of reinsurance (`terms-column`), whether half of it may be covered (`terms-half`), how far promises count (`terms-trust`).
+#[tactic(auto, unfolding(columns::specs::Column::terms_of))]
 pub fn terms_of(who: Counterparty) -> u64
     requires { who.flags < 8 }
     ensures { result ≡ terms_of who }

@@ -19,13 +19,12 @@ pub fn class_of(who: Counterparty) -> u64
     requires { who.flags < 8 }
     ensures { (result ≡ class_of who) × (result < 80) }
 {
-    let kind = who.kind;
-    let n = book::kind_number(kind) as u64;
-    16 * n
-        + choice::amount(book::is_graded(who), 8, 0)
-        + choice::amount(book::is_approved(who), 4, 0)
-        + choice::amount(book::is_affiliate(who), 2, 0)
-        + choice::one_if(book::is_related(who))
+    let kind = u64::from(u8::from(who.kind));
+    let graded = u64::from(book::is_graded(who));
+    let approved = u64::from(book::is_approved(who));
+    let affiliate = u64::from(book::is_affiliate(who));
+    let related = u64::from(book::is_related(who));
+    16 * kind + 8 * graded + 4 * approved + 2 * affiliate + related
 }
 
 // The tier that each column is part of.
@@ -59,9 +58,9 @@ fn age_of(entry: u64, months: u64) -> u64
     requires { entry ≤ 3 }
     ensures { (result ≡ age_of entry months) × (result < 11) }
 {
-    let third = choice::one_if(2 < months);
-    let twelfth = choice::one_if(11 < months);
-    let last = choice::one_if(23 < months);
+    let third = u64::from(2 < months);
+    let twelfth = u64::from(11 < months);
+    let last = u64::from(23 < months);
     AGES >> (4 * (4 * entry + third + twelfth + last)) & 15
 }
 

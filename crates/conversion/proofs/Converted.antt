@@ -4,6 +4,7 @@
 --   converted-long    as long
 --   converted-book    the same records
 --   converted-check   the same refusals of 5 to 13 and 17
+use Rattle.std.proofs.Common.{Ok}
 use mathlib.Core.List.{List, ◌∷◌}
 use mathlib.Core.Path.{◌≡◌, refl, sym, ap, ap₂, fun_ext, ◌∙◌}
 use Prim.Native.Nat.{ℕ, zero, suc, ◌+◌, ◌*◌, ◌-◌, ◌/◌, ◌%◌, ◌≤◌, ◌<◌}
@@ -14,7 +15,6 @@ use borrow.Author.Tests.{leb-true, eqb-true}
 use Rattle.words.specs.Words.{◌≤?◌, ◌=?◌}
 use Rattle.wire.specs.Bytes.{byte_at, u16_at}
 use Rattle.refusal.specs.declared.Refusal.{Refusal}
-use Rattle.refusal.specs.declared.Checked.TheVariants.{Fine}
 use Rattle.refusal.specs.declared.Refusal.TheVariants.{BookLength, BookMark, BookVersion, SpecialistEntry, ManyMitigants}
 use Rattle.refusal.specs.Chain.{refuse◌unless◌, ◌and_then◌}
 use Rattle.refusal.specs.Laws.{then-first, then-rest, unless-fine, each-good, first-same}
@@ -26,7 +26,7 @@ use Rattle.book.specs.Check.{book_marked, counts_fit, amounts_fit, good_counterp
 use Rattle.conversion.specs.Conversion.{versioned, recounted, converted, rebuilt, first_check, narrow_check, Narrow}
 use Rattle.conversion.proofs.Reading.{SameBut4, past, u16-same, u64-same, base_same, counterparty-same, good-same, assets-same, mitigant-same, asset-same}
 
-pub narrow : (b : List ℕ) → first_check b ≡ Fine → narrow_check b ≡ Fine → Narrow b
+pub narrow : (b : List ℕ) → first_check b ≡ Ok tt → narrow_check b ≡ Ok tt → Narrow b
 unfolding first_check narrow_check
 narrow b e f =
     let size = refuse BookLength unless header_size ≤? length b in

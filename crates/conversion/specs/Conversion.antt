@@ -5,9 +5,8 @@
 --   Narrow                  a book that they let pass
 use Rattle.std.specs.Prelude.{List, ◌≡◌, ℕ, zero, suc, ◌+◌, ◌/◌, ◌%◌, ◌≤◌, ◌<◌, length, set}
 use Rattle.words.specs.Words.{◌≤?◌, ◌=?◌}
-use Rattle.refusal.specs.declared.Checked.{Checked}
 use Rattle.refusal.specs.declared.Refusal.TheVariants.{BookLength, BookMark, BookVersion, ManyMitigants}
-use Rattle.refusal.specs.Chain.{refuse◌unless◌, ◌and_then◌, refuse_each}
+use Rattle.refusal.specs.Chain.{refuse◌unless◌, ◌and_then◌, refuse_each, Checked}
 use Rattle.book.specs.declared.Asset.{Asset}
 use Rattle.book.specs.Records.{header_size, version, N, asset_start, asset_at}
 use Rattle.book.specs.Check.{book_marked}

@@ -2,10 +2,9 @@
 --   turned back desks-left-out    the bytes of books, and the old ones from the new
 --   edges                         7, 18 and their places
 -- The counts are what is looked at: the lists of mitigants are shorter than they say, which no definition here reads.
-use Rattle.std.specs.Prelude.{Bool, ◌&&◌, List, [], ◌∷◌, ◌≡◌, refl, ℕ, T, set, take, replicate}
+use Rattle.refusal.specs.Chain.{Checked}
+use Rattle.std.specs.Prelude.{Bool, ◌&&◌, List, [], ◌∷◌, ◌≡◌, refl, ℕ, T, set, take, replicate, Ok, Err}
 use Rattle.words.specs.Words.{◌=?◌, every}
-use Rattle.refusal.specs.declared.Checked.{Checked}
-use Rattle.refusal.specs.declared.Checked.TheVariants.{Fine, Bad}
 use Rattle.refusal.specs.Refusals.{number_of, place_of}
 use Rattle.book.specs.Build.{counterparty, asset, desk_asset, mitigant, book_bytes, desk_bytes, book_computed}
 use Rattle.conversion.specs.Conversion.{recounted, converted, rebuilt, first_check, narrow_check}
@@ -58,8 +57,8 @@ abbrev ◌gives◌at◌ : Checked → ℕ → ℕ → Case
 c gives n at p = record { found = c; number = n; place = p }
 
 abbrev answers : Checked → ℕ → ℕ → Bool
-answers Fine number place = number =? 0 && place =? 0
-answers (Bad why) number place = number_of why =? number && place_of why =? place
+answers (Ok _) number place = number =? 0 && place =? 0
+answers (Err why) number place = number_of why =? number && place_of why =? place
 
 unfoldable right : Case → Bool
 right c = answers c.found c.number c.place

@@ -1,12 +1,11 @@
 -- The answer, section by section of the checks: what is refused changes no byte; what is converted keeps everything.
+use Rattle.std.proofs.Common.{Ok, Err}
 use mathlib.Core.List.{List, ◌++◌}
 use mathlib.Core.Path.{◌≡◌, refl, sym, ap, ◌∙◌}
 use Prim.Native.Nat.{ℕ, ◌≤◌, ◌<◌}
 use lib.ListN.{length, take, drop}
 use lib.Seq.{take-append_seam}
 use borrow.Author.Tests.{le-leb, lt-leb}
-use Rattle.refusal.specs.declared.Checked.TheVariants.{Fine, Bad}
-use Rattle.refusal.specs.declared.Answer.TheVariants.{Written, Refused}
 use Rattle.refusal.specs.declared.Refusal.{Refusal}
 use Rattle.refusal.specs.declared.Refusal.TheVariants.{BufferShort}
 use Rattle.refusal.specs.Chain.{◌and_then◌}
@@ -21,41 +20,41 @@ use Rattle.convert.specs.Convert.{book_converts, convert_answer, Kept, Converts}
 
 -- ---- the checks of the book
 module _ (b : List ℕ) where
-  pub bad-first : {why : Refusal} → first_check b ≡ Bad why → Bad why ≡ book_converts b
+  pub bad-first : {why : Refusal} → first_check b ≡ Err why → Err why ≡ book_converts b
   unfolding book_converts
   bad-first e = rw e
 
-  pub bad-book : {why : Refusal} → first_check b ≡ Fine → book_check b ≡ Bad why → Bad why ≡ book_converts b
+  pub bad-book : {why : Refusal} → first_check b ≡ Ok tt → book_check b ≡ Err why → Err why ≡ book_converts b
   unfolding book_converts
   bad-book e f = rw (e, f)
 
-  pub of-both : first_check b ≡ Fine → book_check b ≡ Fine → (fund_check (book_of b) and_then narrow_check b) ≡ book_converts b
+  pub of-both : first_check b ≡ Ok tt → book_check b ≡ Ok tt → (fund_check (book_of b) and_then narrow_check b) ≡ book_converts b
   unfolding book_converts
   of-both e f = rw (e, f)
 
 -- ---- the answer
 module _ (b before : List ℕ) where
-  refused : {why : Refusal} → Refused why ≡ convert_answer b (length before) → Converts b before before (Refused why)
+  refused : {why : Refusal} → Err why ≡ convert_answer b (length before) → Converts b before before (Err why)
   refused e = record { answer = e; bytes = refl; kept = tt }
 
-  pub bad : {why : Refusal} → book_converts b ≡ Bad why → Converts b before before (Refused why)
+  pub bad : {why : Refusal} → book_converts b ≡ Err why → Converts b before before (Err why)
   unfolding convert_answer
   bad e = refused (rw e refl)
 
-  pub short : book_converts b ≡ Fine → length before < length b → Converts b before before (Refused BufferShort)
+  pub short : book_converts b ≡ Ok tt → length before < length b → Converts b before before (Err BufferShort)
   unfolding convert_answer
   short e l = refused (rw (e, lt-leb (length b) (length before) l) refl)
 
-  module _ (e : book_converts b ≡ Fine) where
-    first_fine : first_check b ≡ Fine
+  module _ (e : book_converts b ≡ Ok tt) where
+    first_fine : first_check b ≡ Ok tt
     unfolding book_converts
     first_fine = then-first (first_check b) (book_check b and_then fund_check (book_of b) and_then narrow_check b) e
 
-    behind-first : (book_check b and_then fund_check (book_of b) and_then narrow_check b) ≡ Fine
+    behind-first : (book_check b and_then fund_check (book_of b) and_then narrow_check b) ≡ Ok tt
     unfolding book_converts
     behind-first = then-rest (first_check b) (book_check b and_then fund_check (book_of b) and_then narrow_check b) e
 
-    behind-book : (fund_check (book_of b) and_then narrow_check b) ≡ Fine
+    behind-book : (fund_check (book_of b) and_then narrow_check b) ≡ Ok tt
     behind-book = then-rest (book_check b) (fund_check (book_of b) and_then narrow_check b) behind-first
 
     pub is-narrow : Narrow b
@@ -78,7 +77,7 @@ module _ (b before : List ℕ) where
       back = rebuilt-is b is-narrow;
     }
 
-    pub done : {after : List ℕ} → length b ≤ length before → after ≡ converted b ++ drop (length b) before → Converts b before after (Written (length b))
+    pub done : {after : List ℕ} → length b ≤ length before → after ≡ converted b ++ drop (length b) before → Converts b before after (Ok (length b))
     unfolding convert_answer
     done {after} l put =
         let rest = drop (length b) before in

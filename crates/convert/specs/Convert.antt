@@ -3,14 +3,10 @@
 --   convert_answer   the converted book's length, or a refusal, 16 among them
 --   Kept            "nothing is lost"
 --   Converts        all that the entry promises
-use Rattle.std.specs.Prelude.{List, ◌≡◌, ℕ, length, take}
+use Rattle.std.specs.Prelude.{List, ◌≡◌, ℕ, length, take, Ok, Err}
 use Rattle.words.specs.Words.{◌≤?◌}
-use Rattle.refusal.specs.declared.Checked.{Checked}
-use Rattle.refusal.specs.declared.Checked.TheVariants.{Fine}
-use Rattle.refusal.specs.declared.Answer.{Answer}
-use Rattle.refusal.specs.declared.Answer.TheVariants.{Written, Refused}
 use Rattle.refusal.specs.declared.Refusal.TheVariants.{BufferShort}
-use Rattle.refusal.specs.Chain.{refuse◌unless◌, ◌and_then◌, answer_by}
+use Rattle.refusal.specs.Chain.{refuse◌unless◌, ◌and_then◌, answer_by, Answer, Checked}
 use Rattle.book.specs.Book.{book_of}
 use Rattle.book.specs.Check.{book_check}
 use Rattle.conversion.specs.Conversion.{converted, rebuilt, first_check, narrow_check}
@@ -28,16 +24,16 @@ convert_answer b buffer = answer_by (book_converts b and_then (refuse BufferShor
 
 -- "nothing is lost: both books get the same report, and the old one can be rebuilt from the new", whatever the schedule and the buffer lent for the report
 pub record Kept (old new : List ℕ) : Type 0 where
-  pub accepted : book_check new ≡ Fine
-  pub passes : fund_check (book_of new) ≡ Fine
+  pub accepted : book_check new ≡ Ok tt
+  pub passes : fund_check (book_of new) ≡ Ok tt
   pub answers : (schedule lent : List ℕ) → answer_of schedule new (length lent) ≡ answer_of schedule old (length lent)
   pub reports : (schedule lent : List ℕ) → written_by (answer_of schedule new (length lent)) (report_of schedule new) lent ≡ written_by (answer_of schedule old (length lent)) (report_of schedule old) lent
   pub back : rebuilt new ≡ old
 
 -- of the bytes written, where there are any
 abbrev pub KeptBy : Answer → List ℕ → List ℕ → Type 0
-KeptBy (Written length) old after = Kept old (take length after)
-KeptBy (Refused why) old after = Unit {0}
+KeptBy (Ok length) old after = Kept old (take length after)
+KeptBy (Err why) old after = Unit {0}
 
 -- what the entry promises of its answer r and of the lent buffer, `before` it and `after`
 pub record Converts (book before after : List ℕ) (r : Answer) : Type 0 where

@@ -4,41 +4,27 @@
 ghost use Rattle.std.specs.Prelude.{◌≡◌};
 ghost use Rattle.convert.specs.Convert.{book_converts, Converts};
 
-use refusal::{Answer, Checked, Refusal};
+use refusal::Refusal;
 
 // Refusals 5 to 15, 17 and 18, in the converter's order.
-fn check(book: &[u8]) -> Checked
+#[tactic(auto, using(refusal::specs::Laws::then_err, refusal::specs::Laws::then_ok), unfolding(crate::specs::Convert::book_converts))]
+fn check(book: &[u8]) -> Result<(), Refusal>
     ensures { result ≡ book_converts book.now }
 {
-    let first = conversion::first_check(book);
-    match first {
-        Checked::Bad(why) => Checked::Bad(why),
-        Checked::Fine => {
-            let records = admit::check(book);
-            match records {
-                Checked::Bad(why) => Checked::Bad(why),
-                Checked::Fine => {
-                    let values = book_values::check_book(book);
-                    refusal::and_then(values, conversion::narrow_check(book))
-                }
-            }
-        }
-    }
+    conversion::first_check(book)?;
+    admit::check(book)?;
+    book_values::check_book(book)?;
+    conversion::narrow_check(book)
 }
 
 // The book as version 2, or the first refusal that applies. A refusal changes no byte of the buffer, a converted book only its own length.
-pub fn convert(book: &[u8], converted: &mut [u8]) -> Answer
+pub fn convert(book: &[u8], converted: &mut [u8]) -> Result<usize, Refusal>
     ensures { Converts book.now converted.old converted.new result }
 {
-    let found = check(book);
-    match found {
-        Checked::Bad(why) => Answer::Refused(why),
-        Checked::Fine => {
-            if converted.len() < book.len() {
-                return Answer::Refused(Refusal::BufferShort);
-            }
-            conversion::put(converted, book);
-            Answer::Written(book.len())
-        }
+    check(book)?;
+    if converted.len() < book.len() {
+        return Err(Refusal::BufferShort);
     }
+    conversion::put(converted, book);
+    Ok(book.len())
 }

@@ -2,24 +2,24 @@
 #![tactic(auto)]
 
 ghost use Rattle.std.specs.Prelude.{◌≡◌, ◌≤◌, ◌<◌, max, length, get_or};
-ghost use Rattle.book.specs.Records.{K, mitigants_start};
+ghost use Rattle.book.specs.Records.{K};
 ghost use Rattle.book.specs.Accepted.{Accepted};
+ghost use Rattle.header.specs.Sections.{sections_of};
 ghost use Rattle.covering.specs.Pass.{Known, Offers, Coverable, Covers};
 
+use header::Sections;
+
 // What the mitigant at a place could cover: its value where it counts, else 0; `reinsured` is 1 for reinsurance and 0 for any other asset.
-fn offer_at(b: &[u8], start: usize, place: usize, reinsured: u64, terms: &[u64]) -> u64
-    requires { (Accepted b.now) × (start ≡ mitigants_start b.now) × (0 < place) × (place ≤ K b.now) × (reinsured ≤ 1) × (Known b.now terms.now) }
+#[tactic(auto, using(header::specs::Sections::section_counts, header::specs::Sections::section_mitigants))]
+fn offer_at(b: &[u8], sections: Sections, place: usize, reinsured: u64, terms: &[u64]) -> u64
+    requires { (Accepted b.now) × (sections ≡ sections_of b.now) × (0 < place) × (place ≤ K b.now) × (reinsured ≤ 1) × (Known b.now terms.now) }
     ensures { Offers b.now place reinsured result }
 {
-    let m = book::mitigant_at(b, start, place);
-    let from = m.counterparty as usize;
+    let m = book::mitigant_at(b, sections.mitigants, place);
+    let from = usize::from(m.counterparty);
     let trust = columns::trust_in(terms[from]);
-    let form = m.form as u64;
-    choice::amount(
-        recognition::counts(form, m.flags, reinsured, trust),
-        m.value,
-        0,
-    )
+    let counts = recognition::counts(u64::from(m.form), m.flags, reinsured, trust);
+    choice::pick(counts, m.value, 0)
 }
 
 // The mark of a mitigant's asset, where that of the mitigant before is `own`.
@@ -27,14 +27,14 @@ fn owner_at(starts: &[u16], place: usize, own: u64) -> u64
     requires { place < length starts.now }
     ensures { result ≡ max own (get_or starts.now place 0) }
 {
-    choice::greater(own, rows::index(starts[place]) as u64)
+    own.max(u64::from(starts[place]))
 }
 
 // Every mitigant in book order: what it covers, taken off what is left of its asset and off the half that its asset draws on.
+#[tactic(auto, using(header::specs::Sections::section_counts, header::specs::Sections::section_mitigants))]
 pub fn cover(
     b: &[u8],
-    start: usize,
-    k: usize,
+    sections: Sections,
     terms: &[u64],
     starts: &[u16],
     draws: &[u16],
@@ -42,23 +42,21 @@ pub fn cover(
     rests: &mut [u64],
     covered: &mut [u64],
 )
-    requires { (Accepted b.now) × (start ≡ mitigants_start b.now) × (k ≡ K b.now) × (Known b.now terms.now) × (Coverable b.now starts.now draws.now halves.old rests.old) × (k < length covered.old) }
+    requires { (Accepted b.now) × (sections ≡ sections_of b.now) × (Known b.now terms.now) × (Coverable b.now starts.now draws.now halves.old rests.old) × (K b.now < length covered.old) }
     ensures { Covers b.now covered.old halves.old rests.old covered.new halves.new rests.new }
 {
     let mut own = 0;
-    let mut place = 1;
-    while place <= k {
+    for place in 1..sections.mitigant_count + 1 {
         own = owner_at(starts, place, own);
         let from = (own / 2) as usize;
-        let on = draws[from] as usize;
+        let on = usize::from(draws[from]);
         let rest = rests[from];
         let half = halves[on];
-        let offer = offer_at(b, start, place, own % 2, terms);
-        let still = choice::lesser(rest, half);
-        let part = choice::lesser(offer, still);
+        let offer = offer_at(b, sections, place, own % 2, terms);
+        let still = rest.min(half);
+        let part = offer.min(still);
         halves[on] = half - part;
         rests[from] = rest - part;
         covered[place] = part;
-        place += 1;
     }
 }

@@ -1,6 +1,7 @@
 -- The answers, section by section of the checks.
 --   short-new refused-new written_new     the book that a movement makes: a buffer that is too short for it, a refusal, a report
 --   bad absent-one done                   a movement: refused for the book as it stands, for what it is, or as the book that it makes is
+use Rattle.std.proofs.Common.{Ok, Err}
 use mathlib.Core.Bool.{true, false}
 use mathlib.Core.List.{List, [], ◌∷◌, ◌++◌}
 use mathlib.Core.Path.{◌≡◌, refl, sym, ap, ◌∙◌}
@@ -9,13 +10,9 @@ use native.Mathlib.Omega.{arith}
 use lib.ListN.{length, drop}
 use borrow.Author.Tests.{le-leb, lt-leb}
 use Rattle.words.specs.Words.{◌≤?◌}
-use Rattle.refusal.specs.declared.Checked.{Checked}
-use Rattle.refusal.specs.declared.Checked.TheVariants.{Fine, Bad}
 use Rattle.refusal.specs.declared.Refusal.{Refusal}
 use Rattle.refusal.specs.declared.Refusal.TheVariants.{BufferShort, Movement as absent}
-use Rattle.refusal.specs.declared.Answer.{Answer}
-use Rattle.refusal.specs.declared.Answer.TheVariants.{Written, Refused}
-use Rattle.refusal.specs.Chain.{refuse◌unless◌, ◌and_then◌, answer_by}
+use Rattle.refusal.specs.Chain.{refuse◌unless◌, ◌and_then◌, answer_by, Answer, Checked}
 use Rattle.schedule.specs.Check.{schedule_check}
 use Rattle.book.specs.Book.{book_of}
 use Rattle.book.specs.Check.{book_check}
@@ -29,8 +26,8 @@ use Rattle.day.proofs.Shown.{fresh}
 
 -- one section after two others
 then-assoc : (a b c : Checked) → ((a and_then b) and_then c) ≡ (a and_then b and_then c)
-then-assoc Fine b c = refl
-then-assoc (Bad why) b c = refl
+then-assoc (Ok _) b c = refl
+then-assoc (Err why) b c = refl
 
 -- ---- the book that a movement makes
 module _ (schedule new book report : List ℕ) where
@@ -40,10 +37,10 @@ module _ (schedule new book report : List ℕ) where
   longer = omega (arith, report-long (fund_in schedule new))
 
   -- refused, whatever the checks before it find
-  ends : (c : Checked) (why : Refusal) (n : ℕ) {r : Answer} → r ≡ answer_by (c and_then Bad why) n
+  ends : (c : Checked) (why : Refusal) (n : ℕ) {r : Answer} → r ≡ answer_by (c and_then Err why) n
       → (book ≡ stood_by r new book) × (report ≡ written_by r (report_of schedule new) report) × CutsOf r (fund_in schedule new) report
-  ends Fine why n e = rw e (refl, refl, tt)
-  ends (Bad w) why n e = rw e (refl, refl, tt)
+  ends (Ok _) why n e = rw e (refl, refl, tt)
+  ends (Err w) why n e = rw e (refl, refl, tt)
 
   -- `after` is what the report left of no bytes
   pub short-new : {after : List ℕ} {r : Answer} → length book < length new → length after ≡ 0 → Answered schedule new [] after r → Replaced schedule new book book report (after ++ report) r
@@ -52,11 +49,11 @@ module _ (schedule new book report : List ℕ) where
       let n = length (report_of schedule new) in
       let c = schedule_check schedule and_then book_check new and_then fund_check (book_of new) in
       let none : (n ≤? 0) ≡ false = lt-leb n 0 longer in
-      let q : r ≡ answer_by (schedule_check schedule and_then book_check new and_then fund_check (book_of new) and_then Bad BufferShort) n = rw none at a.answer in
-      let z = ends c BufferShort n (q ∙ ap (λ (x : Checked). answer_by x n) (sym (three (schedule_check schedule) (book_check new) (fund_check (book_of new)) (Bad BufferShort)))) in
+      let q : r ≡ answer_by (schedule_check schedule and_then book_check new and_then fund_check (book_of new) and_then Err BufferShort) n = rw none at a.answer in
+      let z = ends c BufferShort n (q ∙ ap (λ (x : Checked). answer_by x n) (sym (three (schedule_check schedule) (book_check new) (fund_check (book_of new)) (Err BufferShort)))) in
       let same : after ++ report ≡ report = ap (λ (x : List ℕ). x ++ report) (none_left after empty) in
       record {
-        answer = rw (lt-leb (length new) (length book) l, then-assoc (book_check new) (fund_check (book_of new)) (Bad BufferShort)) q;
+        answer = rw (lt-leb (length new) (length book) l, then-assoc (book_check new) (fund_check (book_of new)) (Err BufferShort)) q;
         stands = z.0;
         bytes = same ∙ z.1;
         cuts = rw same z.2;
@@ -67,19 +64,19 @@ module _ (schedule new book report : List ℕ) where
       none_left (x ∷ xs) e = absurd (omega arith)
 
       three : (a b c d : Checked) → ((a and_then b and_then c) and_then d) ≡ (a and_then b and_then c and_then d)
-      three Fine Fine c d = refl
-      three Fine (Bad why) c d = refl
-      three (Bad why) b c d = refl
+      three (Ok _) (Ok _) c d = refl
+      three (Ok _) (Err why) c d = refl
+      three (Err why) b c d = refl
 
   -- where the buffer has room, the answer is the report's
   same_answer : length new ≤ length book → answer_of schedule new (length report) ≡ new_answer schedule new (length book) (length report)
   unfolding new_answer answer_of check_of book_checks
   same_answer l = rw (le-leb (length new) (length book) l, then-assoc (book_check new) (fund_check (book_of new)) (refuse BufferShort unless length (report_of schedule new) ≤? length report))
 
-  pub refused-new : {after : List ℕ} {r : Answer} {why : Refusal} → length new ≤ length book → Answered schedule new report after r → r ≡ Refused why → Replaced schedule new book book report after (Refused why)
+  pub refused-new : {after : List ℕ} {r : Answer} {why : Refusal} → length new ≤ length book → Answered schedule new report after r → r ≡ Err why → Replaced schedule new book book report after (Err why)
   refused-new l a e = record { answer = sym e ∙ a.answer ∙ same_answer l; stands = refl; bytes = rw e at a.bytes; cuts = tt }
 
-  pub written_new : {after book' : List ℕ} {r : Answer} {n : ℕ} → length new ≤ length book → Answered schedule new report after r → r ≡ Written n → book' ≡ new ++ drop (length new) book → Replaced schedule new book book' report after (Written n)
+  pub written_new : {after book' : List ℕ} {r : Answer} {n : ℕ} → length new ≤ length book → Answered schedule new report after r → r ≡ Ok n → book' ≡ new ++ drop (length new) book → Replaced schedule new book book' report after (Ok n)
   written_new l a e p = record { answer = sym e ∙ a.answer ∙ same_answer l; stands = p; bytes = rw e at a.bytes; cuts = rw e at a.cuts }
 
 -- ---- a movement, refused behind the schedule's own refusals or as the book that it makes is
@@ -91,19 +88,19 @@ module _ (schedule : List ℕ) (m : Movement) (book report : List ℕ) where
   refused why e a = let z = ends schedule (book_in book) book report (schedule_check schedule) why 0 e in record { answer = a; stands = stays (schedule_check schedule) e; bytes = z.1; cuts = z.2 }
     where
       stays : {r : Answer} (c : Checked) → r ≡ refused_behind c why → book ≡ stood_by r (resulting (book_in book) m) book
-      stays Fine q = rw q refl
-      stays (Bad w) q = rw q refl
+      stays (Ok _) q = rw q refl
+      stays (Err w) q = rw q refl
 
   -- how long the report would be does not matter to a refusal
-  any-length : (c : Checked) (why : Refusal) (n : ℕ) → refused_behind c why ≡ answer_by (c and_then Bad why) n
-  any-length Fine why n = refl
-  any-length (Bad w) why n = refl
+  any-length : (c : Checked) (why : Refusal) (n : ℕ) → refused_behind c why ≡ answer_by (c and_then Err why) n
+  any-length (Ok _) why n = refl
+  any-length (Err w) why n = refl
 
-  pub bad : {r : Answer} {why : Refusal} → book_checks (book_in book) ≡ Bad why → r ≡ behind_schedule why → Moved schedule m book book report report r
+  pub bad : {r : Answer} {why : Refusal} → book_checks (book_in book) ≡ Err why → r ≡ behind_schedule why → Moved schedule m book book report report r
   unfolding movement_answer movement_check
   bad {why = why} e q = refused why q (q ∙ any-length (schedule_check schedule) why (length (report_of schedule (resulting (book_in book) m))) ∙ rw e)
 
-  module _ (e : book_checks (book_in book) ≡ Fine) where
+  module _ (e : book_checks (book_in book) ≡ Ok tt) where
     pub absent-one : {r : Answer} → possible (book_in book) m ≡ false → r ≡ behind_schedule absent → Moved schedule m book book report report r
     unfolding movement_answer movement_check
     absent-one p q = refused absent q (q ∙ any-length (schedule_check schedule) absent (length (report_of schedule (resulting (book_in book) m))) ∙ rw (e, p))

@@ -3,6 +3,8 @@
 --   moved-after   what an entry promises of both buffers is what a day takes of it
 --   day           the book after a list of movements is the one made afresh from the assets then present, byte by byte
 --   day-report    and, once one was not refused, the report's buffer starts with the report of that book
+use Rattle.std.proofs.Common.{Ok, Err}
+use Rattle.refusal.specs.Chain.{Answer}
 use mathlib.Core.List.{List, [], ◌∷◌, ◌++◌}
 use mathlib.Core.Path.{◌≡◌, refl, sym, ap, ◌∙◌}
 use Prim.Native.Nat.{ℕ, ◌+◌, ◌*◌, ◌≤◌, ◌<◌}
@@ -12,9 +14,6 @@ use lib.Seq.{take_at}
 use borrow.Author.Tests.{le-leb}
 use Rattle.words.specs.Words.{All}
 use Rattle.wire.specs.Bytes.{byte_at}
-use Rattle.refusal.specs.declared.Checked.TheVariants.{Fine}
-use Rattle.refusal.specs.declared.Answer.{Answer}
-use Rattle.refusal.specs.declared.Answer.TheVariants.{Written, Refused}
 use Rattle.refusal.specs.Laws.{then-first, then-rest}
 use Rattle.book.specs.Records.{version, C}
 use Rattle.book.specs.Book.{book_of}
@@ -44,10 +43,10 @@ module _ (schedule : List ℕ) where
     new = resulting (book_in d.book) m
 
     -- a refused one leaves both as they are
-    refused-same : {why : _} → answer_for schedule d m ≡ Refused why → after_one schedule d m ≡ d
+    refused-same : {why : _} → answer_for schedule d m ≡ Err why → after_one schedule d m ≡ d
     refused-same e = ap (λ (r : Answer). left_by schedule r m d) e
 
-    module _ {l : ℕ} (e : answer_for schedule d m ≡ Written l) where
+    module _ {l : ℕ} (e : answer_for schedule d m ≡ Ok l) where
       shown : Shown schedule m d.book (length d.report) l
       shown = not-refused schedule m d.book (length d.report) e
 
@@ -76,7 +75,7 @@ module _ (schedule : List ℕ) where
       made : book_in d.book ≡ made_of start items
       formed : All (Formed (version start)) items
 
-    step : (d : Buffers) (items : List RawHolding) (m : Movement) {l : ℕ} → At d items → answer_for schedule d m ≡ Written l → At (after_one schedule d m) (raw_after items m)
+    step : (d : Buffers) (items : List RawHolding) (m : Movement) {l : ℕ} → At d items → answer_for schedule d m ≡ Ok l → At (after_one schedule d m) (raw_after items m)
     step d items m a e =
         let b = book_in d.book in
         let w = shown d m e in
@@ -98,8 +97,8 @@ module _ (schedule : List ℕ) where
         by : (r : Answer) → answer_for schedule d m ≡ r
             → ((xs : List RawHolding) → At (after_one schedule d m) xs → At (after_all schedule (after_one schedule d m) ms) (present xs (not_refused schedule (after_one schedule d m) ms)))
             → At (after_all schedule (after_one schedule d m) ms) (present items (unless_refused r m (not_refused schedule (after_one schedule d m) ms)))
-        by (Written l) e next = next (raw_after items m) (step d items m a e)
-        by (Refused why) e next = next items (rw (refused-same d m e) a)
+        by (Ok l) e next = next (raw_after items m) (step d items m a e)
+        by (Err why) e next = next items (rw (refused-same d m e) a)
 
   of-same : {x y : List ℕ} (d : Buffers) → x ≡ y → Current schedule y d → Current schedule x d
   of-same d e c = rw e c
@@ -114,8 +113,8 @@ module _ (schedule : List ℕ) where
   stays (m ∷ ms) d c = stays ms (after_one schedule d m) (by (answer_for schedule d m) refl)
     where
       by : (r : Answer) → answer_for schedule d m ≡ r → Current schedule (book_in (after_one schedule d m).book) (after_one schedule d m)
-      by (Written l) e = of-same (after_one schedule d m) (now-stands d m e) (now-current d m e)
-      by (Refused why) e = same-buffers (refused-same d m e) c
+      by (Ok l) e = of-same (after_one schedule d m) (now-stands d m e) (now-current d m e)
+      by (Err why) e = same-buffers (refused-same d m e) c
 
   becomes : (ms : List Movement) (d : Buffers) → 0 < length (not_refused schedule d ms) → Current schedule (book_in (after_all schedule d ms).book) (after_all schedule d ms)
   unfolding after_all not_refused
@@ -125,11 +124,11 @@ module _ (schedule : List ℕ) where
       by : (r : Answer) → answer_for schedule d m ≡ r → 0 < length (unless_refused r m (not_refused schedule (after_one schedule d m) ms))
           → (0 < length (not_refused schedule (after_one schedule d m) ms) → Current schedule (book_in (after_all schedule (after_one schedule d m) ms).book) (after_all schedule (after_one schedule d m) ms))
           → Current schedule (book_in (after_all schedule (after_one schedule d m) ms).book) (after_all schedule (after_one schedule d m) ms)
-      by (Written l) e k next = stays ms (after_one schedule d m) (of-same (after_one schedule d m) (now-stands d m e) (now-current d m e))
-      by (Refused why) e k next = next k
+      by (Ok l) e k next = stays ms (after_one schedule d m) (of-same (after_one schedule d m) (now-stands d m e) (now-current d m e))
+      by (Err why) e k next = next k
 
 -- "A day starts from an accepted book at the start of a lent buffer"
-module _ (schedule : List ℕ) (d : Buffers) (e : book_check (book_in d.book) ≡ Fine) (small : (k : ℕ) → byte_at d.book k < 256) where
+module _ (schedule : List ℕ) (d : Buffers) (e : book_check (book_in d.book) ≡ Ok tt) (small : (k : ℕ) → byte_at d.book k < 256) where
   pub day : (ms : List Movement) → book_in (after_all schedule d ms).book ≡ afresh (book_in d.book) (not_refused schedule d ms)
   unfolding raw_holdings
   day ms =

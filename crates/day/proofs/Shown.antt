@@ -2,6 +2,7 @@
 --   checked-records checks-accepted   a book that its checks let pass is accepted
 --   not-refused book-after            what the checks of a movement say where they found nothing, and the book that then stands
 --   fresh                             the report that was written is that of the book which then stands
+use Rattle.std.proofs.Common.{Ok, Err}
 use mathlib.Core.Bool.{true, ◌&&◌}
 use mathlib.Core.List.{List, ◌++◌}
 use mathlib.Core.Path.{◌≡◌, refl, sym, ap, ◌∙◌}
@@ -11,12 +12,8 @@ use lib.ListN.{length, drop}
 use borrow.Author.Tests.{leb-true}
 use Rattle.words.specs.Words.{◌≤?◌}
 use Rattle.words.specs.Choice.{both}
-use Rattle.refusal.specs.declared.Checked.{Checked}
-use Rattle.refusal.specs.declared.Checked.TheVariants.{Fine, Bad}
 use Rattle.refusal.specs.declared.Refusal.TheVariants.{BufferShort, Movement as absent}
-use Rattle.refusal.specs.declared.Answer.{Answer}
-use Rattle.refusal.specs.declared.Answer.TheVariants.{Written, Refused}
-use Rattle.refusal.specs.Chain.{refuse◌unless◌, ◌and_then◌, answer_by}
+use Rattle.refusal.specs.Chain.{refuse◌unless◌, ◌and_then◌, answer_by, Answer, Checked}
 use Rattle.refusal.specs.Laws.{then-first, then-rest, unless-fine}
 use Rattle.schedule.specs.Check.{schedule_check}
 use Rattle.book.specs.Book.{book_of}
@@ -31,15 +28,15 @@ use Rattle.movement.proofs.Steps.{book-first}
 use Rattle.day.specs.Moving.{movement_check, movement_answer, stood_by}
 
 -- an answer that is no refusal comes of checks that found nothing
-fine_of : (c : Checked) (n : ℕ) {l : ℕ} → answer_by c n ≡ Written l → (c ≡ Fine) × (l ≡ n)
-fine_of Fine n e = (refl, cc)
-fine_of (Bad why) n e = absurd (let z : ◌≡◌ {A = ℕ} 0 1 = cc in omega arith)
+fine_of : (c : Checked) (n : ℕ) {l : ℕ} → answer_by c n ≡ Ok l → (c ≡ Ok tt) × (l ≡ n)
+fine_of (Ok _) n e = (refl, cc)
+fine_of (Err why) n e = absurd (let z : ◌≡◌ {A = ℕ} 0 1 = cc in omega arith)
 
-pub checked-records : (b : List ℕ) → book_checks b ≡ Fine → book_check b ≡ Fine
+pub checked-records : (b : List ℕ) → book_checks b ≡ Ok tt → book_check b ≡ Ok tt
 unfolding book_checks
 checked-records b e = then-first (book_check b) (fund_check (book_of b)) e
 
-pub checks-accepted : (b : List ℕ) → book_checks b ≡ Fine → Accepted b
+pub checks-accepted : (b : List ℕ) → book_checks b ≡ Ok tt → Accepted b
 checks-accepted b e = accepted b (checked-records b e)
 
 module _ (schedule : List ℕ) (m : Movement) (buffer : List ℕ) where
@@ -47,15 +44,15 @@ module _ (schedule : List ℕ) (m : Movement) (buffer : List ℕ) where
   new = resulting (book_in buffer) m
 
   pub record Shown (room l : ℕ) : Type 0 where
-    pub schedule-fine : schedule_check schedule ≡ Fine
+    pub schedule-fine : schedule_check schedule ≡ Ok tt
     pub stands : Accepted (book_in buffer)
     pub can : possible (book_in buffer) m ≡ true
-    pub checked : book_checks new ≡ Fine
+    pub checked : book_checks new ≡ Ok tt
     pub book-room : length new ≤ length buffer
     pub report-room : length (report_of schedule new) ≤ room
     pub size : l ≡ length (report_of schedule new)
 
-  pub not-refused : (room : ℕ) {l : ℕ} → movement_answer schedule m buffer room ≡ Written l → Shown room l
+  pub not-refused : (room : ℕ) {l : ℕ} → movement_answer schedule m buffer room ≡ Ok l → Shown room l
   unfolding movement_answer movement_check
   not-refused room e =
       let b = book_in buffer in
@@ -86,5 +83,5 @@ module _ (schedule : List ℕ) (m : Movement) (buffer : List ℕ) where
       (report : List ℕ) {buffer' report' : List ℕ} (r : Answer) → r ≡ movement_answer schedule m buffer (length report) → buffer' ≡ stood_by r new buffer
       → report' ≡ written_by r (report_of schedule new) report → CutsOf r (fund_in schedule new) report'
       → (report' ≡ written_by r (report_of schedule (book_in buffer')) report) × CutsOf r (fund_in schedule (book_in buffer')) report'
-  fresh report {buffer'} (Written l) e s p c = let q : book_in buffer' ≡ new = ap book_in s ∙ book-after (not-refused (length report) (sym e)) in rw q (p, c)
-  fresh report (Refused why) e s p c = (p, tt)
+  fresh report {buffer'} (Ok l) e s p c = let q : book_in buffer' ≡ new = ap book_in s ∙ book-after (not-refused (length report) (sym e)) in rw q (p, c)
+  fresh report (Err why) e s p c = (p, tt)

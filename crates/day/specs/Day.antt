@@ -4,9 +4,8 @@
 --   after_one after_all   what a movement leaves in both, and a list of them
 --   not_refused          those of a list that were not refused
 --   afresh Current      the book made afresh from the assets then present; both buffers as after its report
-use Rattle.std.specs.Prelude.{List, [], ◌∷◌, ◌≡◌, ℕ, length, take}
-use Rattle.refusal.specs.declared.Answer.{Answer}
-use Rattle.refusal.specs.declared.Answer.TheVariants.{Written, Refused}
+use Rattle.refusal.specs.Chain.{Answer}
+use Rattle.std.specs.Prelude.{List, [], ◌∷◌, ◌≡◌, ℕ, length, take, Ok, Err}
 use Rattle.report.specs.Answer.{report_of, answer_of, written_by}
 use Rattle.movement.specs.Raw.{raw_holdings, made_of}
 use Rattle.movement.specs.Movement.{book_in, Movement, resulting, present}
@@ -35,8 +34,8 @@ after_all schedule d (m ∷ ms) = after_all schedule (after_one schedule d m) ms
 
 -- "refused ones left out"
 abbrev pub unless_refused : Answer → Movement → List Movement → List Movement
-unless_refused (Written bytes) m ms = m ∷ ms
-unless_refused (Refused why) m ms = ms
+unless_refused (Ok bytes) m ms = m ∷ ms
+unless_refused (Err why) m ms = ms
 
 unfoldable pub not_refused : List ℕ → Buffers → List Movement → List Movement
 not_refused schedule d [] = []
@@ -49,5 +48,5 @@ afresh b ms = made_of b (present (raw_holdings b) ms)
 -- both buffers as after a report of `fresh`: the book that stands in the one, and "the charge and the lines" at the start of the other, which the entry for reports gives of it
 pub record Current (schedule fresh : List ℕ) (d : Buffers) : Type 0 where
   pub stands : book_in d.book ≡ fresh
-  pub answer : answer_of schedule fresh (length d.report) ≡ Written (length (report_of schedule fresh))
+  pub answer : answer_of schedule fresh (length d.report) ≡ Ok (length (report_of schedule fresh))
   pub report : take (length (report_of schedule fresh)) d.report ≡ report_of schedule fresh

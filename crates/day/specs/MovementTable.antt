@@ -3,9 +3,8 @@
 --   added-case .. third-gone             each movement, on books of version 1 and 2, and of a specialist fund
 --   back                                 added, then taken away
 --   day-case made-case                   a day, and the book made afresh from the assets then present
-use Rattle.std.specs.Prelude.{true, List, [], ◌∷◌, ◌++◌, ◌≡◌, refl, ℕ, take, replicate, set}
+use Rattle.std.specs.Prelude.{true, List, [], ◌∷◌, ◌++◌, ◌≡◌, refl, ℕ, take, replicate, set, Ok, Err}
 use Rattle.words.specs.Words.{sum}
-use Rattle.refusal.specs.declared.Checked.TheVariants.{Fine, Bad}
 use Rattle.refusal.specs.declared.Refusal.TheVariants.{BookLength, BookCounts, MitigantCounts, Asset}
 use Rattle.book.specs.Build.{counterparty, asset, desk_asset, mitigant, book_bytes, specialist_bytes, desk_bytes, book_computed}
 use Rattle.book.specs.Check.{counts_fit, book_check}
@@ -63,12 +62,12 @@ longer : book_in (whole ++ replicate 100 9) ≡ whole
 unfolding book_computed book_in
 longer = refl
 
-shorter : book_check (book_in (take 227 whole)) ≡ Bad BookCounts
+shorter : book_check (book_in (take 227 whole)) ≡ Err BookCounts
 unfolding book_computed book_in
 shorter = refl
 
 -- counts over their most are 8 whatever the buffer's length
-over : book_check (book_in (set whole 9 4 ++ replicate 100 9)) ≡ Bad BookCounts
+over : book_check (book_in (set whole 9 4 ++ replicate 100 9)) ≡ Err BookCounts
 unfolding book_computed book_in
 over = refl
 
@@ -77,11 +76,11 @@ no-counts : book_in (take 40 (book [] []) ++ (7 ∷ [])) ≡ take 41 (take 40 (b
 unfolding book_computed book_in
 no-counts = refl
 
-under : book_check (book_in (take 39 whole)) ≡ Bad BookLength
+under : book_check (book_in (take 39 whole)) ≡ Err BookLength
 unfolding book_computed book_in
 under = refl
 
-empty : book_check (book_in []) ≡ Bad BookLength
+empty : book_check (book_in []) ≡ Err BookLength
 unfolding book_computed book_in
 empty = refl
 
@@ -142,24 +141,24 @@ specialist-stays = refl
 
 -- ---- "A record whose count is not 0 fails 13"; in version 2 byte 7 is the desk and no count; in version 1 it is a part of the count
 
-count-case : book_check (with_asset whole third) ≡ Bad MitigantCounts
+count-case : book_check (with_asset whole third) ≡ Err MitigantCounts
 unfolding book_computed with_asset front_of
 count-case = refl
 
-desk-case : book_check (with_asset whole' (desk_asset 255 4 0 0 0 1 0 40000 0 0 0 0)) ≡ Fine
+desk-case : book_check (with_asset whole' (desk_asset 255 4 0 0 0 1 0 40000 0 0 0 0)) ≡ Ok tt
 unfolding book_computed with_asset front_of
 desk-case = refl
 
-count-desk-case : book_check (with_asset whole' (desk_asset 0 4 0 0 0 1 1 40000 0 0 0 0)) ≡ Bad MitigantCounts
+count-desk-case : book_check (with_asset whole' (desk_asset 0 4 0 0 0 1 1 40000 0 0 0 0)) ≡ Err MitigantCounts
 unfolding book_computed with_asset front_of
 count-desk-case = refl
 
-desk-in-first : book_check (with_asset whole (desk_asset 1 4 0 0 0 1 0 40000 0 0 0 0)) ≡ Bad MitigantCounts
+desk-in-first : book_check (with_asset whole (desk_asset 1 4 0 0 0 1 0 40000 0 0 0 0)) ≡ Err MitigantCounts
 unfolding book_computed with_asset front_of
 desk-in-first = refl
 
 -- the new record's place is the one behind the last
-bad-record : book_check (with_asset whole (asset 12 0 0 0 1 0 0 0 0 0 0)) ≡ Bad (Asset 4)
+bad-record : book_check (with_asset whole (asset 12 0 0 0 1 0 0 0 0 0 0)) ≡ Err (Asset 4)
 unfolding book_computed with_asset front_of
 bad-record = refl
 
@@ -168,12 +167,12 @@ most : counts_fit (with_asset (book (replicate 899 second) []) second) ≡ true
 unfolding book_computed with_asset front_of
 most = refl
 
-one_more : book_check (with_asset (book (replicate 900 second) []) second) ≡ Bad BookCounts
+one_more : book_check (with_asset (book (replicate 900 second) []) second) ≡ Err BookCounts
 unfolding book_computed with_asset front_of
 one_more = refl
 
 -- whatever it is
-one-more-bad : book_check (with_asset (book (replicate 900 second) []) (asset 12 0 0 0 1 0 0 0 0 0 0)) ≡ Bad BookCounts
+one-more-bad : book_check (with_asset (book (replicate 900 second) []) (asset 12 0 0 0 1 0 0 0 0 0 0)) ≡ Err BookCounts
 unfolding book_computed with_asset front_of
 one-more-bad = refl
 

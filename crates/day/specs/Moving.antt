@@ -5,15 +5,11 @@
 --   Moved                all that an entry promises, demand 3 with it
 --   refused_behind        a refusal behind the checks before it
 --   new_answer Replaced   the same as Moved of the book that a movement makes
-use Rattle.std.specs.Prelude.{◌&&◌, List, ◌++◌, ◌≡◌, ℕ, length, drop}
+use Rattle.std.specs.Prelude.{◌&&◌, List, ◌++◌, ◌≡◌, ℕ, length, drop, Ok, Err}
 use Rattle.words.specs.Words.{◌≤?◌}
-use Rattle.refusal.specs.declared.Checked.{Checked}
-use Rattle.refusal.specs.declared.Checked.TheVariants.{Bad}
 use Rattle.refusal.specs.declared.Refusal.{Refusal}
 use Rattle.refusal.specs.declared.Refusal.TheVariants.{BufferShort, Movement as absent}
-use Rattle.refusal.specs.declared.Answer.{Answer}
-use Rattle.refusal.specs.declared.Answer.TheVariants.{Written, Refused}
-use Rattle.refusal.specs.Chain.{refuse◌unless◌, ◌and_then◌, answer_by}
+use Rattle.refusal.specs.Chain.{refuse◌unless◌, ◌and_then◌, answer_by, Answer, Checked}
 use Rattle.schedule.specs.Check.{schedule_check}
 use Rattle.book_checks.specs.Checks.{book_checks}
 use Rattle.report.specs.Answer.{fund_in, report_of, written_by, CutsOf}
@@ -37,8 +33,8 @@ movement_answer schedule m buffer room = answer_by (movement_check schedule m bu
 
 -- what an answer leaves in the book's buffer: the new book, "and bytes past the new end stay"; or, refused, "changes nothing"
 abbrev pub stood_by : Answer → List ℕ → List ℕ → List ℕ
-stood_by (Written bytes) new buffer = new ++ drop (length new) buffer
-stood_by (Refused why) new buffer = buffer
+stood_by (Ok bytes) new buffer = new ++ drop (length new) buffer
+stood_by (Err why) new buffer = buffer
 
 -- what an entry promises of its answer r, of the book's buffer and of the report's, before it and after: the report is that of the book which then stands
 pub record Moved (schedule : List ℕ) (m : Movement) (book book' report report' : List ℕ) (r : Answer) : Type 0 where
@@ -49,7 +45,7 @@ pub record Moved (schedule : List ℕ) (m : Movement) (book book' report report'
 
 -- a refusal behind what checks before it found: the first refusal is the answer
 abbrev pub refused_behind : Checked → Refusal → Answer
-refused_behind found why = answer_by (found and_then Bad why) 0
+refused_behind found why = answer_by (found and_then Err why) 0
 
 -- what is promised of a book that is to take the place of the one in the buffer, whatever made it
 unfoldable pub new_answer : List ℕ → List ℕ → ℕ → ℕ → Answer

@@ -4,30 +4,33 @@
 
 ghost use Rattle.std.specs.Prelude.{◌≡◌, ℕ, ◌+◌, ◌-◌, ◌≤◌, ◌<◌};
 ghost use Rattle.rows.specs.Rows.{columns};
-ghost use Rattle.book.specs.Records.{K, mitigants_start, counterparty_at};
+ghost use Rattle.book.specs.Records.{K, counterparty_at};
 ghost use Rattle.book.specs.Accepted.{Accepted};
+ghost use Rattle.header.specs.Sections.{sections_of};
 ghost use Rattle.columns.specs.Column.{tier_in, Tiered};
 ghost use Rattle.cells.specs.Cells.{part_at, Rowed};
 ghost use Rattle.desks.specs.BookLines.{exposure_line};
 ghost use Rattle.desks.specs.Pass.{line_cell, PartsServable, PartsServed};
 
+use header::Sections;
+
 // The cell of the line of what a mitigant covers.
+#[tactic(auto, using(header::specs::Sections::section_counts, header::specs::Sections::section_mitigants))]
 fn part_cell(
     b: &[u8],
-    start: usize,
+    sections: Sections,
     place: usize,
     words: &[u64],
     rows: &[u16],
     tiers: &[u16],
 ) -> usize
-    requires { (Accepted b.now) × (start ≡ mitigants_start b.now) × (0 < place) × (place ≤ K b.now) × (Rowed b.now words.now rows.now) × (Tiered tiers.now) }
+    requires { (Accepted b.now) × (sections ≡ sections_of b.now) × (0 < place) × (place ≤ K b.now) × (Rowed b.now words.now rows.now) × (Tiered tiers.now) }
     ensures { (desk amount : ℕ) → result ≡ line_cell b.now (exposure_line (counterparty_at b.now) desk (part_at b.now place amount)) }
 {
-    let m = book::mitigant_at(b, start, place);
-    let from = m.counterparty as usize;
-    let form = m.form as u64;
-    let column = columns::of_form(words[from], form) as usize;
-    rows::index(rows[from]) + rows::index(tiers[column])
+    let m = book::mitigant_at(b, sections.mitigants, place);
+    let from = usize::from(m.counterparty);
+    let column = columns::of_form(words[from], u64::from(m.form)) as usize;
+    usize::from(rows[from]) + usize::from(tiers[column])
 }
 
 // The cell of the line of what is left of an asset, by its row and the cell of its column.
@@ -35,14 +38,14 @@ pub fn rest_cell(row: u16, cell: u16, tiers: &[u16]) -> usize
     requires { (row ≤ cell) × (cell < row + columns) × (Tiered tiers.now) }
     ensures { result ≡ row + tier_in (cell - row) }
 {
-    let column = rows::index(cell - row);
-    rows::index(row) + rows::index(tiers[column])
+    let column = usize::from(cell - row);
+    usize::from(row) + usize::from(tiers[column])
 }
 
 // The covered parts of an asset of such a desk, whose mitigants stand from place `first` on and before `end`.
 pub fn serve_parts(
     b: &[u8],
-    start: usize,
+    sections: Sections,
     first: usize,
     end: usize,
     desk: usize,
@@ -53,13 +56,11 @@ pub fn serve_parts(
     still: &mut [u64],
     desks: &mut [u64],
 )
-    requires { PartsServable b.now start first end desk words.now rows.now tiers.now covered.now still.old desks.old }
+    requires { PartsServable b.now sections first end desk words.now rows.now tiers.now covered.now still.old desks.old }
     ensures { PartsServed b.now covered.now desk first (end - first) still.old desks.old still.new desks.new }
 {
-    let mut place = first;
-    while place < end {
-        let cell = part_cell(b, start, place, words, rows, tiers);
+    for place in first..end {
+        let cell = part_cell(b, sections, place, words, rows, tiers);
         bills::serve(still, desks, cell, covered[place], desk);
-        place += 1;
     }
 }

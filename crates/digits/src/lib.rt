@@ -10,12 +10,8 @@ pub fn put(out: &mut [u8], at: usize, s: &[u8]) -> usize
     requires { at + length s.now ≤ length out.old }
     ensures { Written out.old at s.now out.new result }
 {
-    let mut i = 0;
-    while i < s.len() {
-        out[at + i] = s[i];
-        i += 1;
-    }
-    at + i
+    out[at..at + s.len()].copy_from_slice(s);
+    at + s.len()
 }
 
 // A number's decimal digits, at most 20.

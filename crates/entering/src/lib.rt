@@ -29,7 +29,7 @@ pub fn enter(
         let cell = row + assets::treaty_column(a, terms);
         let on = assets::treaty_draws(a, terms);
         assets::settle(place, cell, s.rest, on, draws, rests, places);
-        halves[a.counterparty as usize] += s.rest;
+        halves[usize::from(a.counterparty)] += s.rest;
         return sums;
     }
     let s = assets::share_of(a, a.value);

@@ -1,8 +1,7 @@
 -- A table of cases: schedule and book, what is read off the report, and what that must be.
-use Rattle.std.specs.Prelude.{Bool, true, false, ◌&&◌, List, [], ◌∷◌, ℕ, length}
+use Rattle.refusal.specs.Chain.{Answer}
+use Rattle.std.specs.Prelude.{Bool, true, false, ◌&&◌, List, [], ◌∷◌, ℕ, length, Ok, Err}
 use Rattle.words.specs.Words.{◌=?◌}
-use Rattle.refusal.specs.declared.Answer.{Answer}
-use Rattle.refusal.specs.declared.Answer.TheVariants.{Written, Refused}
 use Rattle.refusal.specs.Refusals.{number_of, place_of}
 use Rattle.schedule.specs.Schedule.{published, schedule_bytes}
 use Rattle.report.specs.Answer.{report_of, answer_of}
@@ -30,13 +29,13 @@ same (x ∷ xs) (y ∷ ys) = x =? y && same xs ys
 
 -- "The answer carries the report's length"
 abbrev pub accepted : Answer → ℕ → Bool
-accepted (Written n) length = n =? length
-accepted (Refused why) length = false
+accepted (Ok n) length = n =? length
+accepted (Err why) length = false
 
 -- "A refusal is a number and a place"
 abbrev pub turned : Answer → ℕ → ℕ → Bool
-turned (Written n) number place = false
-turned (Refused why) number place = number_of why =? number && place_of why =? place
+turned (Ok n) number place = false
+turned (Err why) number place = number_of why =? number && place_of why =? place
 
 -- the answer is the report of the case, for a buffer of 65,536 bytes, and it reads as it should
 unfoldable pub right : Case → Bool

@@ -1,9 +1,8 @@
 -- Values and refusals 14 and 15, computed.
-use Rattle.std.specs.Prelude.{[], ◌∷◌, map, ◌≡◌, refl, ℕ}
+use Rattle.refusal.specs.Chain.{Checked}
+use Rattle.std.specs.Prelude.{[], ◌∷◌, map, ◌≡◌, refl, ℕ, Ok, Err}
 use Rattle.words.specs.Words.{sum_of}
 use Rattle.wire.specs.Bytes.{M}
-use Rattle.refusal.specs.declared.Checked.{Checked}
-use Rattle.refusal.specs.declared.Checked.TheVariants.{Fine, Bad}
 use Rattle.refusal.specs.declared.Refusal.TheVariants.{ReinsuranceValues, StressedAssets}
 use Rattle.book.specs.declared.Asset.{Asset}
 use Rattle.book.specs.Book.{Book}
@@ -50,6 +49,6 @@ one total excluded value combination = fund total excluded [] (held (reinsured 1
 check-cases :
     map {B = Checked} fund_check
     (one 4 0 5 0 ∷ one 4 0 4 0 ∷ one 0 1 0 0 ∷ one 1 1 0 0 ∷ one M 0 0 1 ∷ one M 1 0 1 ∷ one 4 5 5 0 ∷ [])
-    ≡ Bad ReinsuranceValues ∷ Fine ∷ Bad StressedAssets ∷ Fine ∷ Bad StressedAssets ∷ Fine ∷ Bad ReinsuranceValues ∷ []
+    ≡ Err ReinsuranceValues ∷ (Ok tt) ∷ Err StressedAssets ∷ (Ok tt) ∷ Err StressedAssets ∷ (Ok tt) ∷ Err ReinsuranceValues ∷ []
 unfolding fund_check VAF' before_excluded over_reinsurance stressed sum_of
 check-cases = refl

@@ -7,9 +7,8 @@
 use Rattle.std.specs.Prelude.{◌&&◌, ℕ, ◌+◌, ◌-◌, max, if◌then◌else◌}
 use Rattle.words.specs.Words.{◌≤?◌, sum_of}
 use Rattle.wire.specs.Bytes.{M}
-use Rattle.refusal.specs.declared.Checked.{Checked}
 use Rattle.refusal.specs.declared.Refusal.TheVariants.{ReinsuranceValues, StressedAssets}
-use Rattle.refusal.specs.Chain.{refuse◌unless◌, ◌and_then◌}
+use Rattle.refusal.specs.Chain.{refuse◌unless◌, ◌and_then◌, Checked}
 use Rattle.book.specs.declared.Asset.{Asset}
 use Rattle.book.specs.Fields.{reinsurance, rises}
 use Rattle.book.specs.Book.{Book, Holding}

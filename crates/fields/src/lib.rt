@@ -8,13 +8,14 @@ ghost use Rattle.book.specs.Check.{good_counterparty, in_book, no_reinsurance_fi
 use book::{Asset, Mitigant};
 
 // The counterparty of a place: parent, grade, kind and flags. From the bytes, since a kind over 4 has no name in `Kind`.
+#[tactic(auto, unfolding(book::specs::Check::good_counterparty))]
 pub fn good_counterparty(b: &[u8], place: usize) -> bool
     requires { (0 < place) × (place < 65536) × (header_size + counterparty_size * place ≤ length b.now) }
     ensures { result ≡ good_counterparty b.now place }
 {
     let at = book::counterparty_start(place);
     let packed = b[at + 2];
-    ((wire::u16_at(b, at) as usize) < place)
+    (usize::from(wire::u16_at(b, at)) < place)
         & (book::low_four(packed) <= 7)
         & (book::high_four(packed) <= 4)
         & (b[at + 3] < 8)
@@ -24,7 +25,7 @@ pub fn good_counterparty(b: &[u8], place: usize) -> bool
 fn in_book(c: u16, place: u16) -> bool
     ensures { result ≡ in_book c place }
 {
-    (1 <= place) & (place <= c)
+    (1..=c).contains(&place)
 }
 
 // No amount is above the bits of all together, so that one test is enough where those are within M.
@@ -64,37 +65,30 @@ fn no_reinsurance_fields(a: Asset) -> bool
 fn codes_fit(a: Asset) -> bool
     ensures { result ≡ codes_fit a }
 {
-    (1 <= a.kind) & (a.kind <= 11) & (a.flags < 4) & (a.entry <= 3)
+    (1..=11).contains(&a.kind) & (a.flags < 4) & (a.entry <= 3)
 }
 
-// An asset of a book with c counterparties. By returns, since what comes behind is then tested of the one sort of asset alone.
+// An asset of a book with c counterparties. What only reinsurance is held to is not tested of any other asset, nor the other way round.
+#[tactic(auto, unfolding(book::specs::Check::good_asset))]
 pub fn good_asset(c: u16, a: Asset) -> bool
     ensures { result ≡ good_asset c a }
 {
-    if !codes_fit(a) {
-        return false;
-    }
-    if !in_book(c, a.counterparty) {
-        return false;
-    }
-    if !amounts_within(a) {
-        return false;
-    }
-    if book::is_reinsurance(a) {
-        return reinsurance_fields_fit(a);
-    }
-    no_reinsurance_fields(a)
+    codes_fit(a)
+        && in_book(c, a.counterparty)
+        && amounts_within(a)
+        && if book::is_reinsurance(a) {
+            reinsurance_fields_fit(a)
+        } else {
+            no_reinsurance_fields(a)
+        }
 }
 
 // A mitigant of a book with c counterparties.
+#[tactic(auto, unfolding(book::specs::Check::good_mitigant))]
 pub fn good_mitigant(c: u16, m: Mitigant) -> bool
     ensures { result ≡ good_mitigant c m }
 {
-    (1 <= m.form)
-        & (m.form <= 5)
-        & (m.flags < 32)
-        & in_book(c, m.counterparty)
-        & (m.value <= wire::M)
+    (1..=5).contains(&m.form) & (m.flags < 32) & in_book(c, m.counterparty) & (m.value <= wire::M)
 }
 
 // Whether an asset's entry may stand in a specialist fund's book, or in another.

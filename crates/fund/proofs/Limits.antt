@@ -1,4 +1,5 @@
 -- What the checks that were passed give the functions behind them: bounds, and the figures by their definitions.
+use Rattle.std.proofs.Common.{Ok}
 use mathlib.Core.List.{List, map}
 use mathlib.Core.Path.{◌≡◌, refl, sym, ap, ◌∙◌}
 use Prim.Native.Nat.{ℕ, ◌+◌, ◌≤◌, ◌<◌, ◌^◌}
@@ -6,7 +7,6 @@ use native.Mathlib.Omega.{arith}
 use lib.IntN.{ℤ, pos, negsuc}
 use lib.ListN.{length, get_or}
 use Rattle.wire.specs.Bytes.{M}
-use Rattle.refusal.specs.declared.Checked.TheVariants.{Fine}
 use Rattle.limit.specs.Limit.{ten_thousandths, counted, cents_of}
 use Rattle.limit.specs.Bounds.{most_limit}
 use Rattle.schedule.specs.declared.Schedule.{Schedule}
@@ -57,7 +57,7 @@ module _ {schedule book : List ℕ} (p : Passed schedule book) where
   pub vaf-most : {v : ℕ} → v ≡ VAF (book_of book) → v ≤ M
   vaf-most e = rw e (vaf-le book taken)
 
-  module _ (f : fund_check (book_of book) ≡ Fine) where
+  module _ (f : fund_check (book_of book) ≡ Ok tt) where
     pub stressed-most : {v : ℕ} → v ≡ VAF' (book_of book) → v ≤ M
     stressed-most e = rw e (stressed-vaf-le (book_of book) f)
 

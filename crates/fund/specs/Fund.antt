@@ -5,12 +5,11 @@
 --   Cells Exposed Summed   the table of exposures by group, and the sums that no table holds
 --   Rateable         a fund that 14 and 15 let pass too, with that table
 --   LimitsOf RatedAs limits, ranking and figures of a fund that 14 and 15 let pass too
---   nothing Made     what is made of a fund that they refuse, and of any
-use Rattle.std.specs.Prelude.{List, ◌≡◌, ℕ, ◌+◌, ◌*◌, ◌≤◌, ◌<◌, length, get_or, replicate}
+--   Made             what is made of a fund, or the refusal
+use Rattle.refusal.specs.Chain.{Checked}
+use Rattle.std.specs.Prelude.{List, ◌≡◌, ℕ, ◌+◌, ◌*◌, ◌≤◌, ◌<◌, length, get_or, Result, Ok, Err}
 use Rattle.words.specs.Tables.{filled}
 use Rattle.wire.specs.Bytes.{M}
-use Rattle.refusal.specs.declared.Checked.{Checked}
-use Rattle.refusal.specs.declared.Checked.TheVariants.{Fine, Bad}
 use Rattle.refusal.specs.declared.Refusal.{Refusal}
 use Rattle.schedule.specs.Schedule.{schedule_of}
 use Rattle.schedule.specs.Check.{schedule_check}
@@ -38,8 +37,8 @@ use Rattle.fund.specs.declared.Fund.{Fund}
 use Rattle.fund.specs.Figures.{unrounded_of, limits_of, order, a3_sum, a3_limit}
 
 pub record Passed (schedule book : List ℕ) : Type 0 where
-  pub of-schedule : schedule_check schedule ≡ Fine
-  pub of-book : book_check book ≡ Fine
+  pub of-schedule : schedule_check schedule ≡ Ok tt
+  pub of-book : book_check book ≡ Ok tt
 
 -- tables of zeros that are long enough; the others need only be long enough
 pub record Lent (b starts draws halves rests places covered : List ℕ) : Type 0 where
@@ -90,7 +89,7 @@ pub record Exposed (b : List ℕ) (groups : ℕ) (cells : List ℕ) : Type 0 whe
 -- exposed   their exposures are in the cells
 pub record Rateable (schedule b : List ℕ) (groups : ℕ) (cells : List ℕ) : Type 0 where
   pub passed : Passed schedule b
-  pub checked : fund_check (book_of b) ≡ Fine
+  pub checked : fund_check (book_of b) ≡ Ok tt
   pub count : groups ≡ tops_to b (C b)
   pub exposed : Exposed b groups cells
 
@@ -106,7 +105,6 @@ pub record LimitsOf (schedule book : List ℕ) (r : Limited) : Type 0 where
   pub a3 : r.a3_limit ≡ a3_limit (schedule_of schedule) (book_of book)
 
 pub record RatedAs (schedule book : List ℕ) (r : Fund) : Type 0 where
-  pub found : r.found ≡ Fine
   pub limits : r.limits ≡ limits_of (schedule_of schedule) (book_of book)
   pub ranking : r.ranking ≡ ranked (order (schedule_of schedule) (book_of book)) tiers
   pub vaf : r.figures.vaf ≡ VAF (book_of book)
@@ -117,19 +115,10 @@ pub record RatedAs (schedule book : List ℕ) (r : Fund) : Type 0 where
   pub a3-within : r.figures.a3_sum ≤ 3750 * M
   pub a3-limit : r.figures.a3_limit ≡ a3_limit (schedule_of schedule) (book_of book)
 
-abbrev pub nothing : Refusal → Fund
-nothing why =
-    record {
-      found = Bad why;
-      limits = replicate tiers 0;
-      ranking = replicate tiers 0;
-      figures = record { vaf = 0; stressed_vaf = 0; all_net = 0; unlimited = 0; a3_sum = 0; a3_limit = 0 };
-    }
-
 -- what is made of a fund, by what 14 and 15 find
-abbrev pub MadeBy : Checked → List ℕ → List ℕ → Fund → Type 0
-MadeBy Fine schedule book r = RatedAs schedule book r
-MadeBy (Bad why) schedule book r = r ≡ nothing why
+abbrev pub MadeBy : Checked → List ℕ → List ℕ → Result Fund Refusal → Type 0
+MadeBy (Ok _) schedule book r = (f : Fund) × (r ≡ Ok f) × RatedAs schedule book f
+MadeBy (Err why) schedule book r = r ≡ Err why
 
-abbrev pub Made : List ℕ → List ℕ → Fund → Type 0
+abbrev pub Made : List ℕ → List ℕ → Result Fund Refusal → Type 0
 Made schedule book r = MadeBy (fund_check (book_of book)) schedule book r

@@ -2,18 +2,16 @@
 #![tactic(auto)]
 
 ghost use Rattle.std.specs.Prelude.{◌≡◌};
-ghost use Rattle.refusal.specs.declared.Checked.TheVariants.{Fine};
 ghost use Rattle.book.specs.Book.{book_of};
 ghost use Rattle.exposure.specs.Values.{fund_check};
 ghost use Rattle.exposure.specs.Sums.{W};
 ghost use Rattle.assets.specs.Assets.{FundSums};
-ghost use Rattle.fund.specs.Fund.{Passed, Summed, Rateable, LimitsOf, RatedAs, nothing};
+ghost use Rattle.fund.specs.Fund.{Passed, Summed, Rateable, LimitsOf, RatedAs};
 
 use assets::Values;
 use cascade::TIERS;
 use cells::Sums;
 use figures::Figures;
-use refusal::{Checked, Refusal};
 
 // What the schedule gives for the fund's values.
 #[derive(Clone, Copy)]
@@ -25,19 +23,33 @@ struct Limited {
     a3_limit: u64,
 }
 
-// What refusals 14 and 15 find; where they let the fund pass, its limits, its tiers by rank and the header's figures that the groups have no part in,
-// and else zeros.
+// The limits of a fund that refusals 14 and 15 let pass, its tiers by rank and the header's figures that the groups have no part in.
 #[derive(Clone, Copy)]
 pub struct Fund {
-    pub found: Checked,
     pub limits: [u64; TIERS],
     pub ranking: [usize; TIERS],
     pub figures: Figures,
 }
 
+// A fund that 14 and 15 let pass, and its tables: by counterparty, by group, by asset and by mitigant.
+#[derive(Drop)]
+pub struct Opened<'a> {
+    pub groups: usize,
+    pub fund: Fund,
+    pub words: &'a [u64],
+    pub rows: &'a [u16],
+    pub heads: &'a [u16],
+    pub rests: &'a [u64],
+    pub places: &'a [u16],
+    pub covered: &'a [u64],
+    pub cells: &'a mut [u64],
+    pub sets: &'a mut [u16],
+    pub list: &'a mut [u16],
+}
+
 // VAF, VAF' and the limits.
 fn limits_of(schedule: &[u8], book: &[u8], values: Values, w: u64) -> Limited
-    requires { (Passed schedule.now book.now) × (fund_check (book_of book.now) ≡ Fine) × (FundSums book.now values) × (w ≡ W (book_of book.now)) }
+    requires { (Passed schedule.now book.now) × (fund_check (book_of book.now) ≡ Ok tt) × (FundSums book.now values) × (w ≡ W (book_of book.now)) }
     ensures { LimitsOf schedule.now book.now result }
 {
     let s = schedule::schedule_at(schedule);
@@ -79,28 +91,8 @@ pub fn rate(
         a3_limit: l.a3_limit,
     };
     Fund {
-        found: Checked::Fine,
         limits,
         ranking: cascade::rank(unrounded),
         figures,
-    }
-}
-
-// A fund that 14 or 15 refuse.
-pub fn refused(why: Refusal) -> Fund
-    ensures { result ≡ nothing why }
-{
-    Fund {
-        found: Checked::Bad(why),
-        limits: [0u64; TIERS],
-        ranking: [0usize; TIERS],
-        figures: Figures {
-            vaf: 0,
-            stressed_vaf: 0,
-            all_net: 0,
-            unlimited: 0,
-            a3_sum: 0,
-            a3_limit: 0,
-        },
     }
 }

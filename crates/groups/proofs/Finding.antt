@@ -12,7 +12,7 @@ use borrow.Author.Tests.{eqb-true, eqb-false, leb-true, leb-false}
 use Rattle.words.specs.Tables.{filled, filled-length, filled_at, filled-past}
 use Rattle.book.specs.Records.{C, counterparty_at}
 use Rattle.book.specs.Book.{top_of}
-use Rattle.groups.specs.Tops.{kept, Partial, Blank}
+use Rattle.groups.specs.Tops.{kept, Partial}
 use Rattle.groups.specs.TableLaws.{kept-size, kept-other, kept-partial, partial-set}
 
 pub record Finding (b : List ℕ) (c : ℕ) (t₀ t : List ℕ) (place : ℕ) : Type 0 where
@@ -21,15 +21,6 @@ pub record Finding (b : List ℕ) (c : ℕ) (t₀ t : List ℕ) (place : ℕ) : 
   pub some : Partial b t
   pub done : (p : ℕ) → place < p → p ≤ c → get_or t p 0 ≡ top_of (counterparty_at b) p
   pub other : (p : ℕ) → (0 < p → c < p) → get_or t p 0 ≡ get_or t₀ p 0
-
-pub finding-start : (b : List ℕ) (c : ℕ) (t : List ℕ) → c ≡ C b → Blank c t → Finding b c t t c
-finding-start b c t e k = record {
-  within = omega arith;
-  same = refl;
-  some = record { size = omega (arith, k.size); each = λ p l g. absurd (omega (arith, k.zeros p (omega arith))) };
-  done = λ p l h. absurd (omega arith);
-  other = λ p h. refl;
-}
 
 module _ {b : List ℕ} {c : ℕ} {t₀ t : List ℕ} {place : ℕ} (k : Finding b c t₀ t place) (e : c ≡ C b) where
   -- the place's own topmost parent is known

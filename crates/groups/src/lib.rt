@@ -14,7 +14,7 @@ fn parent(book: &[u8], place: usize) -> usize
     ensures { (result ≡ parent_of (counterparty_at book.now) place) × (result < place) }
 {
     let who = book::counterparty_at(book, place);
-    who.parent as usize
+    usize::from(who.parent)
 }
 
 // The topmost parent of a place: itself where it has no parent, or else its parent's, which is looked up in the table or found and kept there.
@@ -40,12 +40,10 @@ pub fn find_tops(book: &[u8], c: usize, tops: &mut [u16])
     requires { (Accepted book.now) × (c ≡ C book.now) × (Blank c tops.old) }
     ensures { tops.new ≡ filled (top_of (counterparty_at book.now)) c tops.old }
 {
-    let mut place = c;
-    while 0 < place {
+    for place in (1..=c).rev() {
         if tops[place] == 0 {
             let found = top(book, tops, place);
             tops[place] = found;
         }
-        place -= 1;
     }
 }

@@ -5,6 +5,7 @@ ghost use Rattle.std.specs.Prelude.{◌≡◌, ◌+◌, ◌*◌, ◌≤◌, leng
 ghost use Rattle.words.specs.Words.{◌=?◌};
 ghost use Rattle.book.specs.Records.{header_size, version, counterparty_size, asset_size, mitigant_size, header_at, assets_of};
 ghost use Rattle.book.specs.Check.{book_marked, version_known};
+ghost use Rattle.header.specs.Sections.{sections_of};
 
 use book::{Assets, Header};
 
@@ -13,22 +14,25 @@ const FIRST: u16 = 1;
 
 pub const WITH_DESKS: u16 = 2;
 
+// What the passes go by: how many records of each type there are, where the assets stand and where the mitigants start.
+#[derive(Clone, Copy)]
+pub struct Sections {
+    pub counterparties: usize,
+    pub assets: Assets,
+    pub asset_count: usize,
+    pub mitigants: usize,
+    pub mitigant_count: usize,
+}
+
 // "ACB" and a zero, 0 or 1, and the three zeros.
 pub fn marked(b: &[u8]) -> bool
     requires { header_size ≤ length b.now }
     ensures { result ≡ book_marked b.now }
 {
-    (b[0] == b'A')
-        & (b[1] == b'C')
-        & (b[2] == b'B')
-        & (b[3] == 0)
-        & (b[12] <= 1)
-        & (b[13] == 0)
-        & (b[14] == 0)
-        & (b[15] == 0)
+    b.starts_with(b"ACB\0") & (b[12] <= 1) & (b[13..16] == [0; 3])
 }
 
-// Whether a book is of the first version, and whether of any.
+// Whether a book is of the first version.
 pub fn is_first(b: &[u8]) -> bool
     requires { header_size ≤ length b.now }
     ensures { result ≡ (version b.now =? 1) }
@@ -36,6 +40,7 @@ pub fn is_first(b: &[u8]) -> bool
     wire::u16_at(b, 4) == FIRST
 }
 
+// Whether a book is of the second version.
 fn has_desks(b: &[u8]) -> bool
     requires { header_size ≤ length b.now }
     ensures { result ≡ (version b.now =? 2) }
@@ -43,6 +48,7 @@ fn has_desks(b: &[u8]) -> bool
     wire::u16_at(b, 4) == WITH_DESKS
 }
 
+// Whether a book is of either version.
 pub fn version_known(b: &[u8]) -> bool
     requires { header_size ≤ length b.now }
     ensures { result ≡ version_known b.now }
@@ -50,6 +56,8 @@ pub fn version_known(b: &[u8]) -> bool
     is_first(b) | has_desks(b)
 }
 
+// What the header says.
+#[tactic(auto, unfolding(book::specs::Records::header_at))]
 pub fn header_at(b: &[u8]) -> Header
     requires { header_size ≤ length b.now }
     ensures { result ≡ header_at b.now }
@@ -65,23 +73,25 @@ pub fn header_at(b: &[u8]) -> Header
     }
 }
 
-// Where the assets start, where the mitigants, and how many bytes there are to the last of these.
+// Where the assets start.
 fn assets_start(h: Header) -> usize
     ensures { result ≡ header_size + counterparty_size * h.counterparties }
 {
-    book::HEADER_SIZE + book::COUNTERPARTY_SIZE * h.counterparties as usize
+    book::HEADER_SIZE + book::COUNTERPARTY_SIZE * usize::from(h.counterparties)
 }
 
+// Where the mitigants start.
 pub fn mitigants_start(h: Header) -> usize
     ensures { result ≡ header_size + counterparty_size * h.counterparties + asset_size * h.assets }
 {
-    assets_start(h) + book::ASSET_SIZE * h.assets as usize
+    assets_start(h) + book::ASSET_SIZE * usize::from(h.assets)
 }
 
+// How many bytes there are to the last mitigant.
 pub fn size(h: Header) -> usize
     ensures { result ≡ header_size + counterparty_size * h.counterparties + asset_size * h.assets + mitigant_size * h.mitigants }
 {
-    mitigants_start(h) + book::MITIGANT_SIZE * h.mitigants as usize
+    mitigants_start(h) + book::MITIGANT_SIZE * usize::from(h.mitigants)
 }
 
 // Where the assets stand, from which alone `asset_at` knows of versions. The caller keeps it: a loop then reads it once.
@@ -92,6 +102,21 @@ pub fn assets_of(b: &[u8]) -> Assets
     let h = header_at(b);
     Assets {
         start: assets_start(h),
-        counts: choice::number(has_desks(b), book::ONE_BYTE, book::BOTH_BYTES),
+        counts: choice::pick(has_desks(b), book::ONE_BYTE, book::BOTH_BYTES),
+    }
+}
+
+// The sections of a book. The caller keeps them, and the passes read no header.
+pub fn sections_of(b: &[u8]) -> Sections
+    requires { header_size ≤ length b.now }
+    ensures { result ≡ sections_of b.now }
+{
+    let h = header_at(b);
+    Sections {
+        counterparties: usize::from(h.counterparties),
+        assets: assets_of(b),
+        asset_count: usize::from(h.assets),
+        mitigants: mitigants_start(h),
+        mitigant_count: usize::from(h.mitigants),
     }
 }

@@ -28,14 +28,11 @@ pub fn room(
     let mut standing: u64 = 0;
     let mut room = most;
     let mut met = false;
-    let mut i = 0;
-    while i < TIERS {
-        let t = ranking[i];
+    for t in ranking {
         let limit = limits[t];
-        standing = choice::lesser(standing + cells[at + t], limit);
-        met = met | (t == tier);
-        room = choice::amount(met, choice::lesser(room, limit - standing), room);
-        i += 1;
+        standing = (standing + cells[at + t]).min(limit);
+        met |= t == tier;
+        room = choice::pick(met, room.min(limit - standing), room);
     }
     room
 }

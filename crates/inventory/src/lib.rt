@@ -3,29 +3,30 @@
 #![tactic(auto)]
 
 ghost use Rattle.std.specs.Prelude.{◌≡◌, ◌+◌, ◌*◌, ◌≤◌, if◌then◌else◌};
-ghost use Rattle.book.specs.Records.{most_assets, N, assets_of};
+ghost use Rattle.book.specs.Records.{most_assets};
 ghost use Rattle.book.specs.Fields.{reinsurance};
 ghost use Rattle.book.specs.Accepted.{Accepted};
+ghost use Rattle.header.specs.Sections.{sections_of};
 ghost use Rattle.parties.specs.Rows.{Parties};
 ghost use Rattle.assets.specs.Assets.{AssetRoom, Valued};
 
 use assets::Values;
-use book::{Asset, Assets};
+use book::Asset;
+use header::Sections;
 
 // An asset's mark among the mitigants: twice its place, and one more for reinsurance.
 fn mark_of(a: Asset, place: usize) -> u16
     requires { place ≤ most_assets }
     ensures { result ≡ 2 * place + (if reinsurance a then 1 else 0) }
 {
-    let more = choice::one_if(book::is_reinsurance(a));
-    (2 * place as u64 + more) as u16
+    2 * place as u16 + u16::from(book::is_reinsurance(a))
 }
 
 // Every asset in book order. What is left in `halves` are sums, not halved yet.
+#[tactic(auto, using(header::specs::Sections::section_counts, header::specs::Sections::section_assets))]
 pub fn fill(
     b: &[u8],
-    assets: Assets,
-    n: usize,
+    sections: Sections,
     words: &[u64],
     terms: &[u64],
     rows: &[u16],
@@ -35,7 +36,7 @@ pub fn fill(
     rests: &mut [u64],
     places: &mut [u16],
 ) -> Values
-    requires { (Accepted b.now) × (assets ≡ assets_of b.now) × (n ≡ N b.now) × (Parties b.now words.now terms.now rows.now) × (AssetRoom b.now starts.old draws.old halves.old rests.old places.old) }
+    requires { (Accepted b.now) × (sections ≡ sections_of b.now) × (Parties b.now words.now terms.now rows.now) × (AssetRoom b.now starts.old draws.old halves.old rests.old places.old) }
     ensures { Valued b.now starts.old draws.old halves.old rests.old places.old starts.new draws.new halves.new rests.new places.new result }
 {
     let mut v = Values {
@@ -46,16 +47,14 @@ pub fn fill(
         stressed: 0,
     };
     let mut first = 1;
-    let mut place = 1;
-    while place <= n {
-        let a = book::asset_at(b, assets, place);
-        let who = a.counterparty as usize;
+    for place in 1..sections.asset_count + 1 {
+        let a = book::asset_at(b, sections.assets, place);
+        let who = usize::from(a.counterparty);
         v = entering::enter(
             a, place, rows[who], words[who], terms[who], v, draws, halves, rests, places,
         );
         starts[first] = mark_of(a, place);
-        first += a.count as usize;
-        place += 1;
+        first += usize::from(a.count);
     }
     v
 }

@@ -43,12 +43,7 @@ fn put_mark(d: &mut [u8])
     requires { 6 ≤ length d.old }
     ensures { d.new ≡ placed d.old 0 (65 ∷ 67 ∷ 82 ∷ 0 ∷ 1 ∷ 0 ∷ []) }
 {
-    d[0] = b'A';
-    d[1] = b'C';
-    d[2] = b'R';
-    d[3] = 0;
-    d[4] = 1;
-    d[5] = 0;
+    d[..6].copy_from_slice(b"ACR\0\x01\0");
 }
 
 // The header. No byte beside its 72 changes.

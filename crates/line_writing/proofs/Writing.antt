@@ -102,15 +102,16 @@ module _ (S : Source) where
       unfolding lines_along
       lines_end i l = rw (drop_of_length-le (entries_in S list n) {i = i} (omega (arith, entries-long w.long)))
 
-    module _ (room : ℕ) (w : Entries S list n room) (i : ℕ) (l : i < n) where
+    -- the entry at i, by rank as the code has it
+    module _ (room : ℕ) (w : Entries S list n room) (i : ℕ) (l : i < n) {code : ℕ} (q : code ≡ get_or list i 0) where
       abbrev e : ℕ
-      e = of_rank S.ranking (get_or list i 0)
+      e = of_rank S.ranking code
 
       long : i < length (entries_in S list n)
       long = omega (arith, entries-long w.long)
 
       at : get_or (entries_in S list n) i 0 ≡ e
-      at = map_at (of_rank S.ranking) (take n list) i (omega (arith, length-take-le n list w.long)) ∙ ap (of_rank S.ranking) (get_or-take n list i 0 l)
+      at = map_at (of_rank S.ranking) (take n list) i (omega (arith, length-take-le n list w.long)) ∙ ap (of_rank S.ranking) (get_or-take n list i 0 l ∙ sym q)
 
       rest-step : rest i ≡ e ∷ rest (i + 1)
       rest-step = rw (drop-cons (entries_in S list n) i 0 long, at, add-one)
@@ -147,9 +148,9 @@ module _ {S : Source} {list : List ℕ} {n : ℕ} {d₀ : List ℕ} (w : Entries
   fit = lines_fit S list n (length d₀) w no_group 0
 
   -- one turn: the line of the entry at i is put, of the parts that the code has
-  module _ (l : i < n) where
+  module _ (l : i < n) {code : ℕ} (q : code ≡ get_or list i 0) where
     abbrev entry_at : ℕ
-    entry_at = of_rank S.ranking (get_or list i 0)
+    entry_at = of_rank S.ranking code
 
     abbrev under : ℕ
     under = before last s entry_at
@@ -163,9 +164,9 @@ module _ {S : Source} {list : List ℕ} {n : ℕ} {d₀ : List ℕ} (w : Entries
         let more = lines_along S g o.standing (rest S list n (i + 1)) in
         let same = ap₂ (λ (k u : ℕ). lines_along S k u (rest S list n (i + 1))) hg (standing-is S under entry_at o h) in
         record {
-          total = omega (arith, excess-is S under entry_at o h, excess-step S list n (length d₀) w i l last s, p.total, ap excesses same);
+          total = omega (arith, excess-is S under entry_at o h, excess-step S list n (length d₀) w i l q last s, p.total, ap excesses same);
           bytes =
-              put-piece p.bytes fit (line_bytes line) (joined more) (bytes-step S list n (length d₀) w i l last s ∙ ap (λ (xs : List Line). line_bytes line ++ joined xs) (sym same))
+              put-piece p.bytes fit (line_bytes line) (joined more) (bytes-step S list n (length d₀) w i l q last s ∙ ap (λ (xs : List Line). line_bytes line ++ joined xs) (sym same))
               (omega (arith, put.place, line-long line)) size (line-placed put ∙ ap (λ (x : Line). placed d place (line_bytes x)) (line-of S under entry_at o h hg ht hx hl));
         }
 

@@ -10,38 +10,34 @@ ghost use Rattle.lines.specs.Promise.{Entries};
 
 use cascade::TIERS;
 use figures::Line;
+use lines::ListedTable;
 
-// No group has this number.
-const NONE: usize = 65535;
-
-// The lines along a list of entries, behind the header; their excesses summed. Limits and the group's exposures are arrays by rank, the exposures ranked
+// The lines along a table's list, behind the header; their excesses summed. Limits and the group's exposures are arrays by rank, the exposures ranked
 // anew where the group changes; there nothing stands.
-pub fn put_list(
-    d: &mut [u8],
-    limits: [u64; TIERS],
-    ranking: [usize; TIERS],
-    cells: &[u64],
-    sets: &[u16],
-    heads: &[u16],
-    list: &[u16],
-    lines: usize,
-) -> u64
-    requires { Entries (source limits ranking cells.now sets.now heads.now) list.now lines (length d.old) }
-    ensures { (result ≡ sum_of (λ x. x.excess) (listed_lines (source limits ranking cells.now sets.now heads.now) list.now lines)) × (d.new ≡ placed d.old head_size (joined (listed_lines (source limits ranking cells.now sets.now heads.now) list.now lines))) }
+pub fn put_list(d: &mut [u8], table: ListedTable<'_>) -> u64
+    requires { Entries (source table.limits.now table.ranking.now table.cells.now table.sets.now table.heads.now) table.list.now (length table.list.now) (length d.old) }
+    ensures { (result ≡ sum_of (λ x. x.excess) (listed_lines (source table.entry.limits.now table.entry.ranking.now table.entry.cells.now table.entry.sets.now table.entry.heads.now) table.entry.list.now (length table.entry.list.now))) × (d.new ≡ placed d.old head_size (joined (listed_lines (source table.entry.limits.now table.entry.ranking.now table.entry.cells.now table.entry.sets.now table.entry.heads.now) table.entry.list.now (length table.entry.list.now)))) }
 {
-    let ranked = rows::by_rank(limits, ranking);
+    let ListedTable {
+        limits,
+        ranking,
+        cells,
+        sets,
+        heads,
+        list,
+    } = table;
+    let ranked = rows::by_rank(*limits, *ranking);
     let mut exposures = [0u64; TIERS];
     let mut excesses: u64 = 0;
     let mut standing: u64 = 0;
-    let mut last = NONE;
+    let mut last = None;
     let mut place = layout::HEAD;
-    let mut i = 0;
-    while i < lines {
-        let entry = list[i] as usize;
+    for &entry in list {
+        let entry = usize::from(entry);
         let k = entry / TIERS;
         let rank = entry % TIERS;
-        if k != last {
-            exposures = rows::by_rank(rows::row_of(cells, k), ranking);
+        if last != Some(k) {
+            exposures = rows::by_rank(rows::row_of(cells, k), *ranking);
             standing = 0;
         }
         let cut = cascade::cut(ranked[rank], exposures[rank], standing);
@@ -57,8 +53,7 @@ pub fn put_list(
         place = layout::put_line(d, place, line);
         standing = cut.standing;
         excesses += cut.excess;
-        last = k;
-        i += 1;
+        last = Some(k);
     }
     excesses
 }

@@ -13,6 +13,17 @@ ghost use Rattle.lines.specs.Promise.{ListRoom, Addable, Added, Listable, Listed
 use cascade::TIERS;
 use rows::COLUMNS;
 
+// A table that is listed: limits by tier, the tiers by rank, the cells, the sets of the groups' tiers, their top places, and an entry to each line.
+#[derive(Clone, Copy)]
+pub struct ListedTable<'a> {
+    pub limits: &'a [u64; TIERS],
+    pub ranking: &'a [usize; TIERS],
+    pub cells: &'a [u64],
+    pub sets: &'a [u16],
+    pub heads: &'a [u16],
+    pub list: &'a [u16],
+}
+
 // The entries of group number k's lines (TIERS * k and the rank), put into list from `at` on; the place behind them.
 // Every rank is put at the place reached, which moves on where the exposure is above 0: no branch on an exposure.
 fn list_group(
@@ -27,12 +38,9 @@ fn list_group(
 {
     let start = COLUMNS * k;
     let mut place = at;
-    let mut i = 0;
-    while i < TIERS {
-        let t = ranking[i];
+    for (i, &t) in ranking.iter().enumerate() {
         list[place] = (TIERS * k + i) as u16;
-        place += choice::one_if(0 < cells[start + t]) as usize;
-        i += 1;
+        place += usize::from(0 < cells[start + t]);
     }
     place
 }
@@ -42,11 +50,9 @@ fn list_groups(cells: &[u64], groups: usize, ranking: [usize; TIERS], list: &mut
     requires { ListRoom cells.now groups ranking list.old }
     ensures { (result ≡ length (those (shown_by cells.now ranking) (all_entries groups all_ranks))) × (list.new ≡ tried (shown_by cells.now ranking) 0 (all_entries groups all_ranks) list.old) }
 {
-    let mut place: usize = 0;
-    let mut k = 0;
-    while k < groups {
+    let mut place = 0;
+    for k in 0..groups {
         place = list_group(list, place, k, cells, ranking);
-        k += 1;
     }
     place
 }
@@ -56,12 +62,10 @@ fn add_bits(list: &[u16], lines: usize, ranking: [usize; TIERS], sets: &mut [u16
     requires { Addable list.now lines ranking sets.old }
     ensures { Added list.now lines ranking sets.old sets.new }
 {
-    let mut i = 0;
-    while i < lines {
-        let entry = list[i] as usize;
-        let t = ranking[entry % TIERS] as u16;
+    for &entry in &list[..lines] {
+        let entry = usize::from(entry);
+        let t = ranking[entry % TIERS];
         sets[entry / TIERS] += 1 << t;
-        i += 1;
     }
 }
 
@@ -70,11 +74,9 @@ fn ones_in(sets: &[u16], groups: usize) -> usize
     requires { (groups ≤ most_groups) × (groups ≤ length sets.now) }
     ensures { result ≡ sum (λ k. ones (get_or sets.now k 0)) groups }
 {
-    let mut count: usize = 0;
-    let mut k = 0;
-    while k < groups {
-        count += u16::count_ones(sets[k]) as usize;
-        k += 1;
+    let mut count = 0;
+    for set in &sets[..groups] {
+        count += set.count_ones() as usize;
     }
     count
 }

@@ -1,11 +1,11 @@
 -- What is made of a fund that 14 and 15 let pass has its tables (fund-tables).
+use Rattle.std.proofs.Common.{Ok}
 use mathlib.Core.List.{List}
 use mathlib.Core.Path.{◌≡◌}
 use Prim.Native.Nat.{ℕ, ◌<◌}
 use lib.ListN.{length}
 use lib.Seq.{length-sets}
 use Rattle.words.specs.Tables.{filled, filled-length, filled_at}
-use Rattle.refusal.specs.declared.Checked.TheVariants.{Fine}
 use Rattle.book.specs.Records.{N, asset_at}
 use Rattle.book.specs.Book.{book_of}
 use Rattle.exposure.specs.Values.{fund_check}
@@ -21,7 +21,7 @@ use Rattle.making.proofs.Drawing.{exposed}
 
 pub fund-tables : {schedule b : List ℕ} {groups : ℕ} {f : Fund} {words terms rows starts₀ draws₀ halves₀ rests₀ places₀ covered₀ cells₀ starts draws halves rests places covered cells : List ℕ}
     → Passed schedule b → Provided b groups words terms rows starts₀ draws₀ halves₀ rests₀ places₀ covered₀ → Zeros groups cells₀
-    → Drew b groups starts₀ draws₀ halves₀ rests₀ places₀ covered₀ cells₀ starts draws halves rests places covered cells → fund_check (book_of b) ≡ Fine → RatedAs schedule b f
+    → Drew b groups starts₀ draws₀ halves₀ rests₀ places₀ covered₀ cells₀ starts draws halves rests places covered cells → fund_check (book_of b) ≡ Ok tt → RatedAs schedule b f
     → FundTables schedule b groups f words rows places covered rests cells
 fund-tables {b = b} {rests₀ = rests₀} {places₀ = places₀} p given z d checked rated =
     let l = given.lent in

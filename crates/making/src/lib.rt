@@ -8,7 +8,7 @@ ghost use Rattle.fund.specs.Fund.{Passed, Provided, Drew, Summed, Made};
 use assets::Values;
 use cells::Sums;
 use fund::Fund;
-use refusal::Checked;
+use refusal::Refusal;
 
 // The sums over the assets, and those over the exposures that no table holds.
 #[derive(Clone, Copy)]
@@ -36,23 +36,19 @@ fn draw(
     ensures tables { Drew book.now groups starts.old draws.old halves.old rests.old places.old covered.old cells.old starts.new draws.new halves.new rests.new places.new covered.new cells.new }
     ensures sums { Summed book.now result.values result.sums }
 {
-    let h = header::header_at(book);
-    let n = h.assets as usize;
-    let k = h.mitigants as usize;
-    let first = header::assets_of(book);
-    let start = header::mitigants_start(h);
+    let sections = header::sections_of(book);
     let values = inventory::fill(
-        book, first, n, words, terms, rows, starts, draws, halves, rests, places,
+        book, sections, words, terms, rows, starts, draws, halves, rests, places,
     );
     assets::halve(halves);
-    covering::cover(book, start, k, terms, starts, draws, halves, rests, covered);
+    covering::cover(book, sections, terms, starts, draws, halves, rests, covered);
     let sums = posting::post(
-        book, start, n, k, groups, words, rows, covered, rests, places, cells,
+        book, sections, groups, words, rows, covered, rests, places, cells,
     );
     Drawn { values, sums }
 }
 
-// The fund of a schedule and a book that refusals 1 to 13 and 17 let pass, whose counterparties' tables are made.
+// The fund of a schedule and a book that refusals 1 to 13 and 17 let pass, whose counterparties' tables are made; or refusal 14 or 15.
 pub fn make(
     schedule: &[u8],
     book: &[u8],
@@ -67,7 +63,7 @@ pub fn make(
     places: &mut [u16],
     covered: &mut [u64],
     cells: &mut [u64],
-) -> Fund
+) -> Result<Fund, Refusal>
     requires { (Passed schedule.now book.now) × (Provided book.now groups words.now terms.now rows.now starts.old draws.old halves.old rests.old places.old covered.old) × (Zeros groups cells.old) }
     ensures tables { Drew book.now groups starts.old draws.old halves.old rests.old places.old covered.old cells.old starts.new draws.new halves.new rests.new places.new covered.new cells.new }
     ensures made { Made schedule.now book.now result }
@@ -77,9 +73,6 @@ pub fn make(
     );
     let values = drawn.values;
     let sums = drawn.sums;
-    let found = values::check(book, values);
-    match found {
-        Checked::Bad(why) => fund::refused(why),
-        Checked::Fine => fund::rate(schedule, book, groups, values, sums, cells),
-    }
+    values::check(book, values)?;
+    Ok(fund::rate(schedule, book, groups, values, sums, cells))
 }

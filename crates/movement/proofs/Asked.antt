@@ -12,8 +12,8 @@ use Rattle.book.specs.HeaderLaws.{header-counts}
 use Rattle.movement.specs.declared.Change.{Change}
 use Rattle.movement.specs.Movement.{Remove, movement_of, possible}
 
-pub same-possible : (b asset : List ℕ) {change x : Change} → change ≡ x → possible b (movement_of change asset) ≡ possible b (movement_of x asset)
-same-possible b asset e = ap (λ (y : Change). possible b (movement_of y asset)) e
+pub same-possible : (b : List ℕ) {change x : Change} → change ≡ x → possible b (movement_of change) ≡ possible b (movement_of x)
+same-possible b e = ap (λ (y : Change). possible b (movement_of y)) e
 
 pub place-there : (b : List ℕ) (place : ℕ) {h : Header} {t : Bool} → h ≡ header_at b → t ≡ (1 ≤? place && place ≤? h.assets) → t ≡ possible b (Remove place)
 place-there b place e q = q ∙ ap (λ (n : ℕ). 1 ≤? place && place ≤? n) (header-counts b e).1

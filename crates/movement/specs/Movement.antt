@@ -40,10 +40,10 @@ pub data Movement : Type 0 where
   Add : List ℕ → Movement
   Remove : ℕ → Movement
 
--- the one that an entry was asked, with the record that stands beside it
-abbrev pub movement_of : Change → List ℕ → Movement
-movement_of Change.Add record48 = Add record48
-movement_of (Change.Remove place) record48 = Remove place
+-- the one that an entry was asked
+abbrev pub movement_of : Change → Movement
+movement_of (Change.Add record48) = Add record48.now
+movement_of (Change.Remove place) = Remove place
 
 -- the book after it
 abbrev pub resulting : List ℕ → Movement → List ℕ

@@ -8,10 +8,10 @@ ghost use Rattle.book.specs.Accepted.{Accepted};
 ghost use Rattle.movement.specs.Movement.{counts_before, movement_of, possible};
 ghost use Rattle.movement.specs.Promise.{SizeIn, Found};
 
-// What an entry was asked: an asset more, whose record stands beside it, or the asset at a place less.
+// What an entry was asked: an asset more, by its record, or the asset at a place less.
 #[derive(Clone, Copy)]
-pub enum Change {
-    Add,
+pub enum Change<'a> {
+    Add(&'a [u8]),
     Remove(u64),
 }
 
@@ -32,26 +32,23 @@ pub fn size_in(buffer: &[u8]) -> usize
         return buffer.len();
     }
     let size = header::size(header::header_at(buffer));
-    if buffer.len() < size {
-        return buffer.len();
-    }
-    size
+    size.min(buffer.len())
 }
 
 // Whether a place is one of so many assets'.
 fn is_there(place: u64, assets: u16) -> bool
     ensures { result ≡ (1 ≤? place && place ≤? assets) }
 {
-    (1 <= place) & (place <= assets as u64)
+    (1..=u64::from(assets)).contains(&place)
 }
 
 // Whether a movement can be made of a book: what refusal 22 lets pass.
-pub fn is_possible(b: &[u8], change: Change, asset: &[u8]) -> bool
+pub fn is_possible(b: &[u8], change: Change<'_>) -> bool
     requires { Accepted b.now }
-    ensures { result ≡ possible b.now (movement_of change asset.now) }
+    ensures { result ≡ possible b.now (movement_of change.entry) }
 {
     match change {
-        Change::Add => asset.len() == book::ASSET_SIZE,
+        Change::Add(asset) => asset.len() == book::ASSET_SIZE,
         Change::Remove(place) => {
             let h = header::header_at(b);
             is_there(place, h.assets)
@@ -66,11 +63,8 @@ fn counts_before(b: &[u8], place: usize) -> usize
 {
     let assets = header::assets_of(b);
     let mut sum = 0;
-    let mut next = 1;
-    while next < place {
-        let a = book::asset_at(b, assets, next);
-        sum += a.count as usize;
-        next += 1;
+    for before in 1..place {
+        sum += usize::from(book::asset_at(b, assets, before).count);
     }
     sum
 }
@@ -82,12 +76,12 @@ pub fn find(b: &[u8], place: usize) -> Spot
 {
     let h = header::header_at(b);
     let a = book::asset_at(b, header::assets_of(b), place);
-    let assets = book::counterparty_start(h.counterparties as usize + 1);
+    let assets = book::counterparty_start(usize::from(h.counterparties) + 1);
     let first = header::mitigants_start(h) + book::MITIGANT_SIZE * counts_before(b, place);
     Spot {
         asset: assets + book::ASSET_SIZE * (place - 1),
         first,
-        behind: first + book::MITIGANT_SIZE * a.count as usize,
+        behind: first + book::MITIGANT_SIZE * usize::from(a.count),
         count: a.count,
     }
 }

@@ -1,2 +1,4 @@
+mod Checking
 mod Made
+mod Size
 mod Zeros

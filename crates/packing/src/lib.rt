@@ -5,7 +5,7 @@ ghost use Rattle.std.specs.Prelude.{◌≡◌};
 ghost use Rattle.packing.specs.Packed.{packed};
 ghost use Rattle.packing.specs.Version.{library_version};
 
-use refusal::Answer;
+use refusal::Refusal;
 
 // The library's version, MAJOR.MINOR.PATCH.
 const MAJOR: u64 = 0;
@@ -24,12 +24,12 @@ const SCHEDULES: u64 = 2 + 4;
 const BOOKS: u64 = 2 + 4;
 
 // An answer as one number: a refusal's number above its place, or the length written.
-pub fn pack(answer: Answer) -> u64
+pub fn pack(answer: Result<usize, Refusal>) -> u64
     ensures { result ≡ packed answer }
 {
     match answer {
-        Answer::Written(length) => length as u64,
-        Answer::Refused(why) => {
+        Ok(length) => length as u64,
+        Err(why) => {
             let number = refusal::number(why);
             let place = refusal::place(why);
             number * 4294967296 + place

@@ -9,7 +9,7 @@ use borrow.Author.Tests.{eqb-true, eqb-false}
 use Rattle.std.specs.Prelude.{if◌then◌else◌}
 use Rattle.words.specs.Words.{◌=?◌}
 use Rattle.words.specs.Choice.{by-test}
-use Rattle.words.specs.Tables.{filled, filled_none, filled_next, filled-length, filled_at}
+use Rattle.words.specs.Tables.{filled, filled_none, filled_next, filled_at}
 use Rattle.book.specs.declared.Counterparty.{Counterparty}
 use Rattle.book.specs.Records.{C, counterparty_at}
 use Rattle.book.specs.Book.{parent_of, top_of}
@@ -18,7 +18,7 @@ use Rattle.book.specs.Accepted.{Accepted}
 use Rattle.groups.specs.TableLaws.{parent-stored, top-root, top_up}
 use Rattle.rows.specs.Rows.{columns}
 use Rattle.columns.specs.Column.{word_of, terms_of}
-use Rattle.parties.specs.Rows.{tops_to, row_of, headed, words_of, terms_for, Fillable, Filled}
+use Rattle.parties.specs.Rows.{tops_to, row_of, headed, words_of, terms_for, Fillable}
 use Rattle.parties.specs.RowLaws.{top-top, tops-le, tops_next, same-group, headed-next}
 
 pub record Filling (b : List ℕ) (c : ℕ) (words₀ terms₀ rows₀ heads₀ words terms rows heads : List ℕ) (groups place : ℕ) : Type 0 where
@@ -58,18 +58,9 @@ module _ {b : List ℕ} {c : ℕ} {words₀ terms₀ tops₀ rows₀ heads₀ wo
   parent-below : (counterparty_at b place).parent < place
   parent-below = acc.parent place k.started (omega arith)
 
-  pub flags-fit : (counterparty_at b place).flags < 8
-  flags-fit = acc.flags place k.started (omega arith)
-
   -- what the table of topmost parents has
   pub top-found : {tops : List ℕ} → tops ≡ filled (top_of (counterparty_at b)) c tops₀ → get_or tops place 0 ≡ top_of (counterparty_at b) place
   top-found e = rw e (filled_at (top_of (counterparty_at b)) c tops₀ ready.tops-blank.size place k.started h)
-
-  pub top-room : {tops : List ℕ} → tops ≡ filled (top_of (counterparty_at b)) c tops₀ → place < length tops
-  top-room e = rw e (omega (arith, filled-length (top_of (counterparty_at b)) c tops₀, ready.tops-blank.size))
-
-  pub top_small : {tops : List ℕ} → tops ≡ filled (top_of (counterparty_at b)) c tops₀ → get_or tops place 0 ≤ 500
-  top_small e = rw (top-found e) (omega (arith, top-le (counterparty_at b) place, acc.counterparties))
 
   pub top_in : top_of (counterparty_at b) place < length rows
   top_in = omega (arith, top-le (counterparty_at b) place, k.rows_same, ready.rows-size)
@@ -121,10 +112,3 @@ module _ {b : List ℕ} {c : ℕ} {words₀ terms₀ tops₀ rows₀ heads₀ wo
           of-heads = rw (d, k.count) (headed-next b place heads₀ k.started k.of-heads);
           count = rw d count-is;
         }
-
-pub filling-end : {b : List ℕ} {c : ℕ} {words₀ terms₀ tops₀ rows₀ heads₀ words terms tops rows heads : List ℕ} {groups place : ℕ}
-    → Filling b c words₀ terms₀ rows₀ heads₀ words terms rows heads groups place → tops ≡ filled (top_of (counterparty_at b)) c tops₀ → c < place
-    → Filled b c words₀ terms₀ tops₀ rows₀ heads₀ words terms tops rows heads groups
-filling-end {c = c} {place = place} k e h =
-    let d : place - 1 ≡ c = omega (arith, k.within) in
-    record { of_words = rw d at k.of_words; of-terms = rw d at k.of-terms; of-tops = e; of-rows = rw d at k.of-rows; of-heads = rw d at k.of-heads; count = rw d at k.count }

@@ -24,19 +24,17 @@ pub fn fill(
 {
     groups::find_tops(b, c, tops);
     let mut groups = 0;
-    let mut place = 1;
-    while place <= c {
+    for place in 1..c + 1 {
         let who = book::counterparty_at(b, place);
         let alone = who.parent == 0;
-        let top = tops[place] as usize;
+        let top = usize::from(tops[place]);
         let shared = rows[top];
         let fresh = (COLUMNS * groups) as u16;
         words[place] = classes::word_of(who);
         terms[place] = classes::terms_of(who);
-        rows[place] = choice::number(alone, fresh, shared);
+        rows[place] = choice::pick(alone, fresh, shared);
         heads[groups] = place as u16;
-        groups += choice::one_if(alone) as usize;
-        place += 1;
+        groups += usize::from(alone);
     }
     groups
 }

@@ -14,7 +14,7 @@ use Rattle.rows.specs.Rows.{most_groups, columns}
 use Rattle.columns.specs.Column.{digit, digit_of}
 use Rattle.columns.proofs.ColumnLaws.{word-form}
 use Rattle.parties.specs.Rows.{tops_to}
-use Rattle.parties.specs.RowLaws.{row_small, tops-le}
+use Rattle.parties.specs.RowLaws.{tops-le}
 use Rattle.covering.specs.ByPlace.{parts_at, rests_at}
 use Rattle.cells.specs.Cells.{cell_of, part_at, Rowed}
 use Rattle.assets.specs.Assets.{rest_cell}
@@ -35,11 +35,6 @@ module _ {b : List ℕ} {place : ℕ} {m : Mitigant} (acc : Accepted b) (l : 0 <
       let who = counterparty_at b m.counterparty in
       ap₂ ◌+◌ (er ∙ r.row m.counterparty f.low f.high) (ec ∙ ap (λ (w : ℕ). digit (digit_of m.form) w) (r.word m.counterparty f.low f.high) ∙ word-form who (acc.flags m.counterparty f.low f.high) m amount f.form-low f.form)
       ∙ rw e refl
-
-  pub row-few : {words rows : List ℕ} {row : ℕ} → Rowed b words rows → row ≡ get_or rows m.counterparty 0 → row < columns * most_groups
-  row-few r er =
-      let f = fits in
-      omega (arith, er, r.row m.counterparty f.low f.high, row_small b (C b) m.counterparty f.low f.high, tops-le b (C b), acc.counterparties)
 
 -- ---- room
 

@@ -3,66 +3,63 @@
 #![tactic(auto)]
 
 ghost use Rattle.std.specs.Prelude.{[], ◌≡◌, ℕ, ◌≤◌, ◌<◌};
-ghost use Rattle.book.specs.Records.{N, K, mitigants_start};
+ghost use Rattle.book.specs.Records.{N, K};
 ghost use Rattle.book.specs.Accepted.{Accepted};
+ghost use Rattle.header.specs.Sections.{sections_of};
 ghost use Rattle.covering.specs.ByPlace.{parts_at, rests_at};
 ghost use Rattle.cells.specs.Adding.{Adding};
 ghost use Rattle.cells.specs.Cells.{cell_of, part_at, Rowed, Posted};
 ghost use Rattle.posting.specs.Postable.{PartsPostable, RestsPostable, Postable};
 
 use cells::Sums;
+use header::Sections;
 
 // The cell of what a mitigant covers.
-fn cell_at(b: &[u8], start: usize, place: usize, words: &[u64], rows: &[u16]) -> usize
-    requires { (Accepted b.now) × (start ≡ mitigants_start b.now) × (0 < place) × (place ≤ K b.now) × (Rowed b.now words.now rows.now) }
+#[tactic(auto, using(header::specs::Sections::section_counts, header::specs::Sections::section_mitigants))]
+fn cell_at(b: &[u8], sections: Sections, place: usize, words: &[u64], rows: &[u16]) -> usize
+    requires { (Accepted b.now) × (sections ≡ sections_of b.now) × (0 < place) × (place ≤ K b.now) × (Rowed b.now words.now rows.now) }
     ensures { (amount : ℕ) → result ≡ cell_of b.now (part_at b.now place amount) }
 {
-    let m = book::mitigant_at(b, start, place);
-    let from = m.counterparty as usize;
-    let form = m.form as u64;
-    rows::index(rows[from]) + columns::of_form(words[from], form) as usize
+    let m = book::mitigant_at(b, sections.mitigants, place);
+    let from = usize::from(m.counterparty);
+    usize::from(rows[from]) + columns::of_form(words[from], u64::from(m.form)) as usize
 }
 
 // What the mitigants cover, each added to its cell.
+#[tactic(auto, using(header::specs::Sections::section_counts))]
 fn post_parts(
     b: &[u8],
-    start: usize,
-    k: usize,
+    sections: Sections,
     words: &[u64],
     rows: &[u16],
     covered: &[u64],
     cells: &mut [u64],
 )
-    requires { PartsPostable b.now start k words.now rows.now covered.now cells.old }
+    requires { PartsPostable b.now sections words.now rows.now covered.now cells.old }
     ensures { Adding (cell_of b.now) cells.old (parts_at b.now covered.now 1 (K b.now)) cells.new [] }
 {
-    let mut place = 1;
-    while place <= k {
-        let cell = cell_at(b, start, place, words, rows);
+    for place in 1..sections.mitigant_count + 1 {
+        let cell = cell_at(b, sections, place, words, rows);
         cells[cell] += covered[place];
-        place += 1;
     }
 }
 
 // What is left of the assets, each added to its cell. The book is named by the contract alone.
-fn post_rests(b: &[u8], n: usize, places: &[u16], rests: &[u64], cells: &mut [u64])
-    requires { RestsPostable b.now n places.now rests.now cells.old }
+#[tactic(auto, using(header::specs::Sections::section_counts))]
+fn post_rests(b: &[u8], sections: Sections, places: &[u16], rests: &[u64], cells: &mut [u64])
+    requires { RestsPostable b.now sections places.now rests.now cells.old }
     ensures { Adding (cell_of b.now) cells.old (rests_at b.now rests.now 1 (N b.now)) cells.new [] }
 {
-    let mut place = 1;
-    while place <= n {
-        let cell = rows::index(places[place]);
+    for place in 1..sections.asset_count + 1 {
+        let cell = usize::from(places[place]);
         cells[cell] += rests[place];
-        place += 1;
     }
 }
 
 // Every exposure of the book added to its cell, in a table of zeros.
 pub fn post(
     b: &[u8],
-    start: usize,
-    n: usize,
-    k: usize,
+    sections: Sections,
     groups: usize,
     words: &[u64],
     rows: &[u16],
@@ -71,10 +68,10 @@ pub fn post(
     places: &[u16],
     cells: &mut [u64],
 ) -> Sums
-    requires { Postable b.now start n k groups words.now rows.now covered.now rests.now places.now cells.old }
+    requires { Postable b.now sections groups words.now rows.now covered.now rests.now places.now cells.old }
     ensures { Posted b.now groups cells.old cells.new result }
 {
-    post_parts(b, start, k, words, rows, covered, cells);
-    post_rests(b, n, places, rests, cells);
+    post_parts(b, sections, words, rows, covered, cells);
+    post_rests(b, sections, places, rests, cells);
     cells::fold(cells, groups)
 }

@@ -1,4 +1,6 @@
 -- What the answer and the lent buffer say of the text: report-printed, refusal-printed. promised: text put at the start keeps the promise.
+use Rattle.std.proofs.Common.{Ok, Err}
+use Rattle.refusal.specs.Chain.{Answer}
 use mathlib.Core.Path.{◌≡◌, sym, ap, ap₂, ◌∙◌}
 use mathlib.Core.List.{List, ◌++◌}
 use Prim.Native.Nat.{ℕ, ◌≤◌}
@@ -6,8 +8,6 @@ use native.Mathlib.Omega.{arith}
 use lib.ListN.{length, take, drop}
 use lib.Seq.{length-take-le}
 use Rattle.io.specs.Counts.{IsPrefixLen}
-use Rattle.refusal.specs.declared.Answer.{Answer}
-use Rattle.refusal.specs.declared.Answer.TheVariants.{Written, Refused}
 use Rattle.refusal.specs.declared.Refusal.{Refusal}
 use Rattle.refusal.specs.Refusals.{number_of, place_of}
 use Rattle.schedule.specs.Schedule.{schedule_size}
@@ -28,11 +28,11 @@ module _ (schedule book before after : List ℕ) (size : length before ≡ buffe
   by_answer a = rw (a.answer, size)
 
   -- the lines and the charge that are read off the buffer
-  pub report-printed : (n : ℕ) → Told (Written n) → report_text (lines_read after (lines_in after)) (charge_in after) ≡ text_for schedule book
+  pub report-printed : (n : ℕ) → Told (Ok n) → report_text (lines_read after (lines_in after)) (charge_in after) ≡ text_for schedule book
   unfolding report_of
   report-printed n a = rw a.bytes (report-text (fund_in schedule book) (drop n before)) ∙ by_answer a
 
-  pub refusal-printed : (why : Refusal) → Told (Refused why) → refused_text (number_of why) (place_of why) ≡ text_for schedule book
+  pub refusal-printed : (why : Refusal) → Told (Err why) → refused_text (number_of why) (place_of why) ≡ text_for schedule book
   refusal-printed why a = by_answer a
 
 -- text put at the start

@@ -2,7 +2,7 @@
 --   most_book input_room   the longest book; a schedule, such a book and one byte more
 --   too_long              what is found of a longer book
 --   cut                  an input cut there, or further on, gets the same text
-use Rattle.std.specs.Prelude.{Bool, ◌≡◌, ℕ, ◌+◌, ◌*◌, ◌≤◌, ◌<◌, leb, take, drop}
+use Rattle.std.specs.Prelude.{Bool, ◌≡◌, ℕ, ◌+◌, ◌*◌, ◌≤◌, ◌<◌, leb, take, drop, Ok, Err}
 use Rattle.std.proofs.Math.Bool.{true, false}
 use mathlib.Core.List.{List, [], ◌∷◌}
 use Rattle.std.proofs.Math.Path.{refl}
@@ -11,10 +11,8 @@ use Rattle.std.proofs.Math.ListN.{length}
 use Rattle.words.specs.Words.{◌≤?◌, ◌=?◌}
 use Rattle.words.specs.Choice.{each-true}
 use Rattle.wire.specs.Bytes.{byte_at, u16_at}
-use Rattle.refusal.specs.declared.Checked.{Checked}
-use Rattle.refusal.specs.declared.Checked.TheVariants.{Fine, Bad}
 use Rattle.refusal.specs.declared.Refusal.TheVariants.{BookMark, BookVersion, BookCounts, BufferShort}
-use Rattle.refusal.specs.Chain.{refuse◌unless◌, ◌and_then◌, answer_by}
+use Rattle.refusal.specs.Chain.{refuse◌unless◌, ◌and_then◌, answer_by, Checked}
 use Rattle.schedule.specs.Schedule.{schedule_size}
 use Rattle.schedule.specs.Check.{schedule_check}
 use Rattle.book.specs.Records.{header_size, counterparty_size, asset_size, mitigant_size, most_counterparties, most_assets, most_mitigants, C, N, K, book_size}
@@ -36,7 +34,7 @@ input_room = schedule_size + most_book + 1
 
 -- what refusals 5 to 8 make of a longer book: "a count over its most, or another length", if not 6 or 7
 abbrev pub too_long : Bool → Bool → Checked
-too_long marked known = (refuse BookMark unless marked) and_then (refuse BookVersion unless known) and_then Bad BookCounts
+too_long marked known = (refuse BookMark unless marked) and_then (refuse BookVersion unless known) and_then Err BookCounts
 
 module _ (b : List ℕ) (h : most_book < length b) where
   misfit : counts_fit b ≡ false
@@ -66,10 +64,10 @@ module _ (b : List ℕ) (h : most_book < length b) where
     where
       by : (c : Checked) (m v : Bool) (rest : Checked) (n : ℕ) (lines : List Line) (charge : ℕ)
           → answer_text (answer_by (c and_then too_long m v and_then rest) n) lines charge ≡ answer_text (answer_by (c and_then too_long m v) 0) [] 0
-      by (Bad why) m v rest n lines charge = refl
-      by Fine false v rest n lines charge = refl
-      by Fine true false rest n lines charge = refl
-      by Fine true true rest n lines charge = refl
+      by (Err why) m v rest n lines charge = refl
+      by (Ok _) false v rest n lines charge = refl
+      by (Ok _) true false rest n lines charge = refl
+      by (Ok _) true true rest n lines charge = refl
 
 module _ (b c : List ℕ) (p : (k : ℕ) → k < header_size → byte_at b k ≡ byte_at c k) where
   marked-same : book_marked b ≡ book_marked c

@@ -7,7 +7,7 @@ ghost use Rattle.schedule.specs.Schedule.{schedule_size};
 ghost use Rattle.report.specs.Answer.{Answered};
 ghost use Rattle.printing.specs.Printed.{text_room, Printed};
 
-use refusal::Answer;
+use refusal::Refusal;
 
 // Where the schedule ends: after 122 bytes, or at the end of a shorter input.
 fn schedule_end(input: &[u8]) -> usize
@@ -22,7 +22,7 @@ fn schedule_end(input: &[u8]) -> usize
 }
 
 // The answer to the input: its first 122 bytes are the schedule, the rest is the book.
-fn answer(input: &[u8], report: &mut [u8]) -> Answer
+fn answer(input: &[u8], report: &mut [u8]) -> Result<usize, Refusal>
     ensures { Answered (take schedule_size input.now) (drop schedule_size input.now) report.old report.new result }
 {
     let end = schedule_end(input);
@@ -36,9 +36,8 @@ pub fn print(input: &[u8], text: &mut [u8]) -> usize
     ensures prefix_len { IsPrefixLen result text.new }
 {
     let mut report = io::large_buffer();
-    let answer = answer(input, &mut report);
-    match answer {
-        Answer::Written(_) => report_text::put_report(text, &report),
-        Answer::Refused(why) => text::put_refusal(text, why),
+    match answer(input, &mut report) {
+        Ok(_) => report_text::put_report(text, &report),
+        Err(why) => text::put_refusal(text, why),
     }
 }

@@ -1,4 +1,5 @@
 -- The exported promises from those of the functions behind them.
+use Rattle.std.proofs.Common.{Ok, Err}
 use mathlib.Core.List.{List, ◌++◌}
 use mathlib.Core.Path.{◌≡◌, refl, ap, ◌∙◌}
 use Prim.Native.Nat.{ℕ, ◌+◌, ◌*◌, ◌≤◌, ◌<◌}
@@ -7,14 +8,10 @@ use lib.ListN.{length, drop}
 use borrow.Author.Tests.{le-leb, lt-leb}
 use Rattle.wire.specs.Bytes.{placed}
 use Rattle.words.specs.Words.{◌≤?◌}
-use Rattle.refusal.specs.declared.Answer.{Answer}
-use Rattle.refusal.specs.declared.Answer.TheVariants.{Written, Refused}
-use Rattle.refusal.specs.declared.Checked.{Checked}
-use Rattle.refusal.specs.declared.Checked.TheVariants.{Fine, Bad}
 use Rattle.refusal.specs.declared.Refusal.{Refusal}
 use Rattle.refusal.specs.declared.Refusal.TheVariants.{ScheduleLength, ScheduleMark, ScheduleVersion, ScheduleRates, BookLength, BookMark, BookVersion, BookCounts, BookAmounts, Counterparty, Asset, Mitigant, MitigantCounts, ReinsuranceValues, StressedAssets, BufferShort, SpecialistEntry, ManyMitigants, CostRate, Questions, AnswersShort, Movement as NoMovement}
 use Rattle.refusal.specs.Refusals.{number_of}
-use Rattle.refusal.specs.Chain.{refuse◌unless◌, ◌and_then◌, answer_by}
+use Rattle.refusal.specs.Chain.{refuse◌unless◌, ◌and_then◌, answer_by, Answer, Checked}
 use Rattle.refusal.specs.Laws.{then-first, then-rest, unless-fine}
 use Rattle.book.specs.Records.{version as book_version, C}
 use Rattle.book.specs.Book.{book_of}
@@ -66,7 +63,7 @@ numbered AnswersShort = omega arith
 numbered NoMovement = omega arith
 
 -- a report of a book that the checks let pass has at most 2,400 lines
-few : (schedule book : List ℕ) → book_check book ≡ Fine → length (report_of schedule book) < 4294967296
+few : (schedule book : List ℕ) → book_check book ≡ Ok tt → length (report_of schedule book) < 4294967296
 few schedule book e = omega (arith, report-most schedule book e)
 
 apart : (schedule book : List ℕ) (n : ℕ) → Apart (answer_of schedule book n) (packed (answer_of schedule book n))
@@ -74,11 +71,11 @@ unfolding answer_of check_of
 apart schedule book n = by (check_of schedule book n) refl
   where
     by : (k : Checked) → check_of schedule book n ≡ k → Apart (answer_by k (length (report_of schedule book))) (packed (answer_by k (length (report_of schedule book))))
-    by Fine e =
+    by (Ok tt) e =
         few schedule book
         (then-first (book_check book) (fund_check (book_of book) and_then (refuse BufferShort unless length (report_of schedule book) ≤? n))
         (then-rest (schedule_check schedule) (book_check book and_then fund_check (book_of book) and_then (refuse BufferShort unless length (report_of schedule book) ≤? n)) e))
-    by (Bad why) e = omega (arith, numbered why)
+    by (Err why) e = omega (arith, numbered why)
 
 pub reported : (schedule book before after : List ℕ) (a : Answer) (r : ℕ) → Answered schedule book before after a → r ≡ packed a → Reported schedule book before after r
 reported schedule book before after a r w e =
@@ -90,7 +87,7 @@ reported schedule book before after a r w e =
     }
 
 -- a book that the checks let pass has at most 63,240 bytes
-book-few : (book : List ℕ) → book_check book ≡ Fine → length book < 4294967296
+book-few : (book : List ℕ) → book_check book ≡ Ok tt → length book < 4294967296
 book-few book e = let a = accepted book e in omega (arith, a.size, a.counterparties, a.assets, a.mitigants)
 
 convert-apart : (book : List ℕ) (n : ℕ) → Apart (convert_answer book n) (packed (convert_answer book n))
@@ -98,12 +95,12 @@ unfolding convert_answer book_converts
 convert-apart book n = by (book_converts book and_then (refuse BufferShort unless length book ≤? n)) refl
   where
     by : (k : Checked) → (book_converts book and_then (refuse BufferShort unless length book ≤? n)) ≡ k → Apart (answer_by k (length book)) (packed (answer_by k (length book)))
-    by Fine e =
+    by (Ok tt) e =
         let own = then-first (book_converts book) (refuse BufferShort unless length book ≤? n) e in
         book-few book
         (then-first (book_check book) (fund_check (book_of book) and_then narrow_check book)
         (then-rest (first_check book) (book_check book and_then fund_check (book_of book) and_then narrow_check book) own))
-    by (Bad why) e = omega (arith, numbered why)
+    by (Err why) e = omega (arith, numbered why)
 
 pub converts : (book before after : List ℕ) (a : Answer) (r : ℕ) → Converts book before after a → r ≡ packed a → Converted book before after r
 converts book before after a r w e =
@@ -120,8 +117,8 @@ unfolding bill_answer
 bills-apart schedule book rate n = by (bill_check schedule book rate n)
   where
     by : (k : Checked) → Apart (answer_by k bills_size) (packed (answer_by k bills_size))
-    by Fine = omega arith
-    by (Bad why) = omega (arith, numbered why)
+    by (Ok _) = omega arith
+    by (Err why) = omega (arith, numbered why)
 
 pub bills-written : (schedule book : List ℕ) (rate : ℕ) (before after : List ℕ) (a : Answer) (r : ℕ) → Billed schedule book rate before after a → r ≡ packed a → BillsWritten schedule book rate before after r
 bills-written schedule book rate before after a r w e =
@@ -144,14 +141,14 @@ answers-apart schedule book questions n = by (headroom_check schedule book quest
     last = refuse AnswersShort unless answer_size * count_of questions ≤? n
 
     by : (k : Checked) → headroom_check schedule book questions n ≡ k → Apart (answer_by k (answer_size * count_of questions)) (packed (answer_by k (answer_size * count_of questions)))
-    by Fine e =
+    by (Ok tt) e =
         let good =
         then-first lists last
         (then-rest (fund_check (book_of book)) (lists and_then last)
         (then-rest (book_check book) (fund_check (book_of book) and_then lists and_then last)
         (then-rest (schedule_check schedule) (book_check book and_then fund_check (book_of book) and_then lists and_then last) e))) in
         omega (arith, (listed (C book) questions (unless-fine Questions (good_list (C book) questions) good)).few)
-    by (Bad why) e = omega (arith, numbered why)
+    by (Err why) e = omega (arith, numbered why)
 
 pub answered : (schedule book questions before after : List ℕ) (a : Answer) (r : ℕ) → Asked schedule book questions before after a → r ≡ packed a → Answers schedule book questions before after r
 answered schedule book questions before after a r w e =
@@ -167,11 +164,11 @@ movement-apart : (schedule : List ℕ) (m : Movement) (book : List ℕ) (n : ℕ
 movement-apart schedule m book n = by (movement_answer schedule m book n) refl
   where
     by : (a : Answer) → movement_answer schedule m book n ≡ a → Apart a (packed a)
-    by (Written l) e =
+    by (Ok l) e =
         let w = not-refused schedule m book n e in
         let new = resulting (book_in book) m in
         omega (arith, w.size, few schedule new (checked-records new w.checked))
-    by (Refused why) e = omega (arith, numbered why)
+    by (Err why) e = omega (arith, numbered why)
 
 pub movement-made :
     (schedule : List ℕ) (m : Movement) (book book' report report' : List ℕ) (a : Answer) (r : ℕ) → Moved schedule m book book' report report' a → r ≡ packed a

@@ -7,11 +7,10 @@
 --   MovementMade   of weightrose_add and weightrose_remove
 --   Published      of weightrose_published
 --   Versioned      of weightrose_version
-use Rattle.std.specs.Prelude.{List, ◌++◌, ◌≡◌, ℕ, ◌≤◌, ◌<◌, length, drop, if◌then◌else◌}
+use Rattle.refusal.specs.Chain.{Answer}
+use Rattle.std.specs.Prelude.{List, ◌++◌, ◌≡◌, ℕ, ◌≤◌, ◌<◌, length, drop, if◌then◌else◌, Ok, Err}
 use Rattle.words.specs.Words.{◌≤?◌}
 use Rattle.wire.specs.Bytes.{bit}
-use Rattle.refusal.specs.declared.Answer.{Answer}
-use Rattle.refusal.specs.declared.Answer.TheVariants.{Written, Refused}
 use Rattle.schedule.specs.Schedule.{schedule_size, version as schedule_version, published, schedule_bytes}
 use Rattle.schedule.specs.Check.{known}
 use Rattle.book.specs.Records.{version as book_version}
@@ -28,8 +27,8 @@ use Rattle.packing.specs.Version.{version_number, library_version, number_in, sc
 
 -- the number tells the two apart: below 2^32 it is a length, from there on a refusal
 abbrev pub Apart : Answer → ℕ → Type 0
-Apart (Written length) r = r < 4294967296
-Apart (Refused why) r = 4294967296 ≤ r
+Apart (Ok length) r = r < 4294967296
+Apart (Err why) r = 4294967296 ≤ r
 
 -- the number r, and the lent bytes `before` and `after`: demands 1 and 2 by the first two parts, demand 3 by the last
 pub record Reported (schedule book before after : List ℕ) (r : ℕ) : Type 0 where

@@ -14,9 +14,9 @@ use schedule::{HEAD_SIZE, PER_MILLE, ROW_SIZE};
 const ROW_COUNT: usize = 8;
 
 // The published schedule (A1 to A3), of version 1: percents kept, and rows c, d, e, f, g, h, i, z, their rates per mille.
-const FIRST: u64 = 66;
+const FIRST: u16 = 66;
 
-const SECOND: u64 = 34;
+const SECOND: u16 = 34;
 
 const ROWS: [Row; ROW_COUNT] = [
     // c
@@ -82,10 +82,7 @@ fn put_mark(d: &mut [u8])
     requires { 4 ≤ length d.old }
     ensures { d.new ≡ placed d.old 0 mark }
 {
-    d[0] = b'A';
-    d[1] = b'C';
-    d[2] = b'L';
-    d[3] = 0;
+    d[..4].copy_from_slice(b"ACL\0");
 }
 
 // The published schedule's bytes before its rows.
@@ -95,10 +92,11 @@ fn put_head(d: &mut [u8])
 {
     put_mark(d);
     placing::put_u16(d, 4, PER_MILLE);
-    placing::put_u16(d, 6, FIRST as u16);
-    placing::put_u16(d, 8, SECOND as u16);
+    placing::put_u16(d, 6, FIRST);
+    placing::put_u16(d, 8, SECOND);
 }
 
+// One row's bytes, at a place.
 fn put_row(d: &mut [u8], at: usize, row: Row)
     requires row_fits { RowFits row }
     requires row_size_in_bounds { at + row_size ≤ length d.old }
@@ -115,8 +113,8 @@ fn put_rows(d: &mut [u8])
     requires { schedule_size ≤ length d.old }
     ensures { d.new ≡ placed d.old head_size (each_of row_bytes (rows_of published)) }
 {
-    for n in 0..ROW_COUNT {
-        put_row(d, HEAD_SIZE + ROW_SIZE * n, ROWS[n]);
+    for (n, row) in ROWS.iter().enumerate() {
+        put_row(d, HEAD_SIZE + ROW_SIZE * n, *row);
     }
 }
 

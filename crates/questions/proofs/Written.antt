@@ -1,4 +1,5 @@
 -- The answers out of the tables are those of the definitions (answers-are); written, each is the greatest amount and the same when sent singly (asked-for).
+use Rattle.std.proofs.Common.{Ok}
 use mathlib.Core.Bool.{true}
 use mathlib.Core.List.{List, [], ◌++◌, map}
 use mathlib.Core.Path.{◌≡◌, refl, sym, ap, ◌∙◌}
@@ -11,8 +12,6 @@ use Rattle.words.specs.Sums.{length-count, count_at}
 use Rattle.wire.specs.Bytes.{M, bytes64, placed}
 use Rattle.wire.specs.Amounts.{amounts_bytes, amounts-length}
 use Rattle.wire.proofs.Amounts.{amounts-in, amounts-at}
-use Rattle.refusal.specs.declared.Checked.TheVariants.{Fine}
-use Rattle.refusal.specs.declared.Answer.TheVariants.{Written}
 use Rattle.headroom.specs.Headroom.{Greatest}
 use Rattle.headroom.proofs.Greatest.{greatest}
 use Rattle.schedule.specs.Schedule.{schedule_of}
@@ -82,7 +81,7 @@ module _ (schedule b questions : List ℕ) where
       ap amounts_bytes
       (counted_same _ answer (count_of questions) (λ k h. answer-is acc eg r w x (in-range (C b) (place_at questions k) (kind_at questions k) (l.good k h))))
 
-  module _ (p : Passed schedule b) (f : fund_check (book_of b) ≡ Fine) (e : good_list (C b) questions ≡ true) where
+  module _ (p : Passed schedule b) (f : fund_check (book_of b) ≡ Ok tt) (e : good_list (C b) questions ≡ true) where
     l : Listed (C b) questions
     l = listed (C b) questions e
 
@@ -106,7 +105,7 @@ module _ (schedule b questions : List ℕ) where
           }
 
     pub asked-for : {before after : List ℕ} → answer_size * count_of questions ≤ length before → after ≡ placed before 0 (answers_of schedule b questions)
-        → Asked schedule b questions before after (Written (answer_size * count_of questions))
+        → Asked schedule b questions before after (Ok (answer_size * count_of questions))
     asked-for {before} {after} n w =
         let d : 0 + length (answers_of schedule b questions) ≡ answer_size * count_of questions = omega (arith, answers-long) in
         let a : after ≡ answers_of schedule b questions ++ drop (answer_size * count_of questions) before = w ∙ ap (λ (k : ℕ). answers_of schedule b questions ++ drop k before) d in

@@ -4,15 +4,12 @@
 --   headroom_check headroom_answer     the checks 1 to 15, 17, 20 and 21; the answers' length, or a refusal
 --   answer_in AnswerRight             an answer as it is read; that it is the greatest amount, and the same when sent singly
 --   Asked                            all that the entry promises
-use Rattle.std.specs.Prelude.{List, map, ◌≡◌, ℕ, ◌*◌, ◌≤◌, ◌<◌, length, take, drop}
+use Rattle.std.specs.Prelude.{List, map, ◌≡◌, ℕ, ◌*◌, ◌≤◌, ◌<◌, length, take, drop, Ok, Err}
 use Rattle.words.specs.Words.{◌≤?◌, count_from}
 use Rattle.wire.specs.Bytes.{M, u64_at}
 use Rattle.wire.specs.Amounts.{amounts_bytes}
-use Rattle.refusal.specs.declared.Checked.{Checked}
-use Rattle.refusal.specs.declared.Answer.{Answer}
-use Rattle.refusal.specs.declared.Answer.TheVariants.{Written, Refused}
 use Rattle.refusal.specs.declared.Refusal.TheVariants.{Questions, AnswersShort}
-use Rattle.refusal.specs.Chain.{refuse◌unless◌, ◌and_then◌, answer_by}
+use Rattle.refusal.specs.Chain.{refuse◌unless◌, ◌and_then◌, answer_by, Answer, Checked}
 use Rattle.figures.specs.Report.{charge}
 use Rattle.figures.specs.Read.{charge_in}
 use Rattle.headroom.specs.Headroom.{Greatest, headroom_of}
@@ -73,13 +70,13 @@ pub record AnswerRight (schedule book questions R : List ℕ) (k : ℕ) : Type 0
   pub charge : charge_in (report_of schedule book) ≡ charge (fund_in schedule book)
   pub greatest :
       Greatest (fund_in schedule book) (group_of book (place_at questions k)) (tier_for book (place_at questions k) (kind_at questions k)) M (answer_in R k)
-  pub alone : (buffer : ℕ) → answer_size ≤ buffer → headroom_answer schedule book (question_at questions k) buffer ≡ Written answer_size
+  pub alone : (buffer : ℕ) → answer_size ≤ buffer → headroom_answer schedule book (question_at questions k) buffer ≡ Ok answer_size
   pub same : answers_of schedule book (question_at questions k) ≡ take answer_size (drop (answer_size * k) R)
 
 -- of every question, where there are answers
 abbrev pub RightBy : Answer → List ℕ → List ℕ → List ℕ → List ℕ → Type 0
-RightBy (Written length) schedule book questions R = (k : ℕ) → k < count_of questions → AnswerRight schedule book questions R k
-RightBy (Refused why) schedule book questions R = Unit {0}
+RightBy (Ok length) schedule book questions R = (k : ℕ) → k < count_of questions → AnswerRight schedule book questions R k
+RightBy (Err why) schedule book questions R = Unit {0}
 
 -- what the entry promises of its answer r and of the lent buffer, `before` it and `after`
 pub record Asked (schedule book questions before after : List ℕ) (r : Answer) : Type 0 where

@@ -13,7 +13,7 @@ ghost use Rattle.questions.specs.Headroom.{Asked};
 
 use cascade::TIERS;
 use fund::Fund;
-use refusal::{Answer, Refusal};
+use refusal::Refusal;
 
 // The bytes of an answer.
 const ANSWER: usize = 8;
@@ -32,11 +32,11 @@ fn answer(
     requires { (Answerable limits ranking words.now rows.now cells.now place kind) × (Tiered tiers.now) }
     ensures { (q : RankedBy limits ranking) → result ≡ answer_at q.order limits words.now rows.now cells.now place kind }
 {
-    let who = place as usize;
-    let wanted = kind as u64;
+    let who = usize::from(place);
+    let wanted = u64::from(kind);
     let column = columns::of_kind(words[who], wanted) as usize;
-    let tier = tiers[column] as usize;
-    let row = rows[who] as usize;
+    let tier = usize::from(tiers[column]);
+    let row = usize::from(rows[who]);
     headroom::room(limits, cells, row, ranking, tier, wire::M)
 }
 
@@ -55,13 +55,11 @@ fn put_answers(
     ensures { (q : RankedBy limits ranking) → answers.new ≡ placed answers.old 0 (amounts_bytes (answers_at q.order limits words.now rows.now cells.now questions.now n)) }
 {
     let tiers = columns::tiers();
-    let mut k = 0;
-    while k < n {
+    for k in 0..n {
         let place = wire::u16_at(questions, asking::QUESTION * k);
         let kind = questions[asking::QUESTION * k + 2];
         let amount = answer(place, kind, limits, ranking, words, rows, &tiers, cells);
         placing::put_u64(answers, ANSWER * k, amount);
-        k += 1;
     }
 }
 
@@ -76,7 +74,7 @@ pub fn finish(
     rows: &[u16],
     cells: &[u64],
     answers: &mut [u8],
-) -> Answer
+) -> Result<usize, Refusal>
     requires { (Rateable schedule.now book.now groups cells.now) × (RatedAs schedule.now book.now f) × (Rowed book.now words.now rows.now) }
     ensures { Asked schedule.now book.now questions.now answers.old answers.new result }
 {
@@ -84,13 +82,13 @@ pub fn finish(
     let ranking = f.ranking;
     let h = header::header_at(book);
     if !asking::good_list(questions, h.counterparties) {
-        return Answer::Refused(Refusal::Questions);
+        return Err(Refusal::Questions);
     }
     let n = questions.len() / asking::QUESTION;
     let size = ANSWER * n;
     if answers.len() < size {
-        return Answer::Refused(Refusal::AnswersShort);
+        return Err(Refusal::AnswersShort);
     }
     put_answers(questions, n, limits, ranking, words, rows, cells, answers);
-    Answer::Written(size)
+    Ok(size)
 }

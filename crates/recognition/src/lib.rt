@@ -10,11 +10,11 @@ fn key_of(flags: u8) -> u8
     requires { flags < 32 }
     ensures { result ≡ flags }
 {
-    choice::byte(book::has_bit(flags, 0), 1, 0)
-        + choice::byte(book::has_bit(flags, 1), 2, 0)
-        + choice::byte(book::has_bit(flags, 2), 4, 0)
-        + choice::byte(book::has_bit(flags, 3), 8, 0)
-        + choice::byte(book::has_bit(flags, 4), 16, 0)
+    choice::pick(book::has_bit(flags, 0), 1, 0)
+        + choice::pick(book::has_bit(flags, 1), 2, 0)
+        + choice::pick(book::has_bit(flags, 2), 4, 0)
+        + choice::pick(book::has_bit(flags, 3), 8, 0)
+        + choice::pick(book::has_bit(flags, 4), 16, 0)
 }
 
 // The number of some flags.

@@ -1,30 +1,28 @@
--- Laws of the chain of checks: then-first, then-rest, unless-fine, each-good say what a chain that found nothing says of its links; first-same: tests that agree find the same.
-use Rattle.std.specs.Prelude.{Bool, true, false, ◌≡◌, refl, ℕ, zero, suc, ◌+◌, ◌≤◌, ◌<◌, eqb}
+-- Laws of the chain of checks: then-first, then-rest, unless-fine, each-good say what a chain that found nothing says of its links; then_err, then_ok: a chain by its first check; first-same: tests that agree find the same.
+use Rattle.std.specs.Prelude.{Bool, true, false, ◌≡◌, refl, ℕ, zero, suc, ◌+◌, ◌≤◌, ◌<◌, eqb, Ok, Err}
 use Rattle.std.proofs.Common.{arith, eqb-true}
 use Rattle.std.proofs.lemmas.Bool.{eqb-false}
 use Rattle.refusal.specs.declared.Refusal.{Refusal}
-use Rattle.refusal.specs.declared.Checked.{Checked}
-use Rattle.refusal.specs.declared.Checked.TheVariants.{Fine, Bad}
-use Rattle.refusal.specs.Chain.{refuse◌unless◌, ◌and_then◌, first_bad}
+use Rattle.refusal.specs.Chain.{refuse◌unless◌, ◌and_then◌, first_bad, Checked}
 
 -- a refusal is not nothing
-pub bad-fine : {P : Type 0} {why : Refusal} → Bad why ≡ Fine → P
+pub bad-fine : {P : Type 0} {why : Refusal} → ◌≡◌ {A = Checked} (Err why) (Ok tt) → P
 bad-fine e = absurd (let z : ◌≡◌ {A = ℕ} 0 1 = cc in omega arith)
 
-pub then-first : (a r : Checked) → (a and_then r) ≡ Fine → a ≡ Fine
-then-first Fine r e = refl
-then-first (Bad why) r e = bad-fine e
+pub then-first : (a r : Checked) → (a and_then r) ≡ Ok tt → a ≡ Ok tt
+then-first (Ok _) r e = refl
+then-first (Err why) r e = bad-fine e
 
-pub then-rest : (a r : Checked) → (a and_then r) ≡ Fine → r ≡ Fine
-then-rest Fine r e = e
-then-rest (Bad why) r e = bad-fine e
+pub then-rest : (a r : Checked) → (a and_then r) ≡ Ok tt → r ≡ Ok tt
+then-rest (Ok _) r e = e
+then-rest (Err why) r e = bad-fine e
 
-pub unless-fine : (why : Refusal) (t : Bool) → (refuse why unless t) ≡ Fine → t ≡ true
+pub unless-fine : (why : Refusal) (t : Bool) → (refuse why unless t) ≡ Ok tt → t ≡ true
 unless-fine why true e = refl
 unless-fine why false e = bad-fine e
 
 -- where no record is bad, each one is good
-pub each-good : (why : ℕ → Refusal) (good : ℕ → Bool) (more p : ℕ) → first_bad why good p more ≡ Fine → (q : ℕ) → p ≤ q → q < p + more → good q ≡ true
+pub each-good : (why : ℕ → Refusal) (good : ℕ → Bool) (more p : ℕ) → first_bad why good p more ≡ Ok tt → (q : ℕ) → p ≤ q → q < p + more → good q ≡ true
 unfolding first_bad
 each-good why good zero p e q l h = absurd (omega arith)
 each-good why good (suc more) p e q l h = by (eqb q p) refl (each-good why good more (p + 1) (then-rest (refuse why p unless good p) (first_bad why good (p + 1) more) e) q)
@@ -38,3 +36,10 @@ pub first-same : (why : ℕ → Refusal) (f g : ℕ → Bool) (more p : ℕ) →
 unfolding first_bad
 first-same why f g zero p h = refl
 first-same why f g (suc more) p h = rw (h p (omega arith) (omega arith), first-same why f g more (p + 1) (λ q l k. h q (omega arith) (omega arith)))
+
+-- a chain whose first check refuses, and one whose first check finds nothing
+pub then_err : (a r : Checked) (why : Refusal) → a ≡ Err why → (a and_then r) ≡ Err why
+then_err a r why e = rw e refl
+
+pub then_ok : (a r : Checked) → a ≡ Ok tt → (a and_then r) ≡ r
+then_ok a r e = rw e refl

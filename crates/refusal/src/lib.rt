@@ -1,9 +1,9 @@
-// A refusal, by name; what a section of checks finds; what the desk answers; and the chain of checks.
+// A refusal, by name, its number and place; and one check. What a check or an entry answers is a `Result` with it.
 #![tactic(auto)]
 
 ghost use Rattle.std.specs.Prelude.{◌≡◌, ◌<◌, ◌≤◌};
 ghost use Rattle.refusal.specs.Refusals.{number_of, place_of};
-ghost use Rattle.refusal.specs.Chain.{refuse◌unless◌, ◌and_then◌};
+ghost use Rattle.refusal.specs.Chain.{refuse◌unless◌};
 
 // The refusals in the order of their numbers, 1 to 22. Those of a record carry its place, from 1.
 #[derive(Clone, Copy)]
@@ -30,20 +30,6 @@ pub enum Refusal {
     Questions,
     AnswersShort,
     Movement,
-}
-
-// What a section of checks finds.
-#[derive(Clone, Copy)]
-pub enum Checked {
-    Fine,
-    Bad(Refusal),
-}
-
-// The answer of an entry: how many bytes it wrote, or a refusal.
-#[derive(Clone, Copy)]
-pub enum Answer {
-    Written(usize),
-    Refused(Refusal),
 }
 
 // The refusal's number.
@@ -81,44 +67,18 @@ pub fn place(why: Refusal) -> u64
     ensures { (result ≡ place_of why) × (result < 65536) }
 {
     match why {
-        Refusal::ScheduleLength => 0,
-        Refusal::ScheduleMark => 0,
-        Refusal::ScheduleVersion => 0,
-        Refusal::ScheduleRates => 0,
-        Refusal::BookLength => 0,
-        Refusal::BookMark => 0,
-        Refusal::BookVersion => 0,
-        Refusal::BookCounts => 0,
-        Refusal::BookAmounts => 0,
         Refusal::Counterparty(p) => p as u64,
         Refusal::Asset(p) => p as u64,
         Refusal::Mitigant(p) => p as u64,
-        Refusal::MitigantCounts => 0,
-        Refusal::ReinsuranceValues => 0,
-        Refusal::StressedAssets => 0,
-        Refusal::BufferShort => 0,
         Refusal::SpecialistEntry(p) => p as u64,
         Refusal::ManyMitigants(p) => p as u64,
-        Refusal::CostRate => 0,
-        Refusal::Questions => 0,
-        Refusal::AnswersShort => 0,
-        Refusal::Movement => 0,
+        _ => 0,
     }
 }
 
 // One check: a refusal where the test fails.
-pub fn unless(why: Refusal, ok: bool) -> Checked
+pub fn unless(why: Refusal, ok: bool) -> Result<(), Refusal>
     ensures { result ≡ (refuse why unless ok) }
 {
-    if ok { Checked::Fine } else { Checked::Bad(why) }
-}
-
-// One check after the other: the first refusal is the answer.
-pub fn and_then(a: Checked, b: Checked) -> Checked
-    ensures { result ≡ (a and_then b) }
-{
-    match a {
-        Checked::Fine => b,
-        Checked::Bad(why) => Checked::Bad(why),
-    }
+    if ok { Ok(()) } else { Err(why) }
 }

@@ -2,6 +2,7 @@
 --   most_lines most_report   the most lines, and the most bytes
 --   report-most            no report of an accepted book is longer
 --   never-short            a buffer of so many bytes is not refused by 16
+use Rattle.std.proofs.Common.{Ok, Err}
 use mathlib.Core.List.{List}
 use mathlib.Core.Path.{◌≡◌, refl}
 use Prim.Native.Nat.{ℕ, ◌+◌, ◌*◌, ◌≤◌}
@@ -9,10 +10,8 @@ use native.Mathlib.Omega.{arith}
 use lib.ListN.{length}
 use borrow.Author.Tests.{le-leb}
 use Rattle.words.specs.Words.{◌≤?◌}
-use Rattle.refusal.specs.declared.Checked.{Checked}
-use Rattle.refusal.specs.declared.Checked.TheVariants.{Fine, Bad}
 use Rattle.refusal.specs.declared.Refusal.TheVariants.{BufferShort}
-use Rattle.refusal.specs.Chain.{refuse◌unless◌, ◌and_then◌}
+use Rattle.refusal.specs.Chain.{refuse◌unless◌, ◌and_then◌, Checked}
 use Rattle.schedule.specs.Schedule.{schedule_of}
 use Rattle.schedule.specs.Check.{schedule_check}
 use Rattle.book.specs.Records.{most_assets, most_mitigants}
@@ -32,7 +31,7 @@ most_lines = most_assets + most_mitigants
 abbrev pub most_report : ℕ
 most_report = head_size + line_size * most_lines
 
-pub report-most : (schedule book : List ℕ) → book_check book ≡ Fine → length (report_of schedule book) ≤ most_report
+pub report-most : (schedule book : List ℕ) → book_check book ≡ Ok tt → length (report_of schedule book) ≤ most_report
 unfolding report_of fund_in
 report-most schedule book e =
     let a = accepted book e in
@@ -45,7 +44,7 @@ unfolding check_of
 never-short schedule book buffer h = by (schedule_check schedule) (book_check book) (fund_check (book_of book)) refl
   where
     by : (a b f : Checked) → book_check book ≡ b → (a and_then b and_then f and_then (refuse BufferShort unless length (report_of schedule book) ≤? buffer)) ≡ (a and_then b and_then f)
-    by (Bad why) b f e = refl
-    by Fine (Bad why) f e = refl
-    by Fine Fine (Bad why) e = refl
-    by Fine Fine Fine e = rw (le-leb (length (report_of schedule book)) buffer (omega (arith, report-most schedule book e)))
+    by (Err why) b f e = refl
+    by (Ok _) (Err why) f e = refl
+    by (Ok _) (Ok _) (Err why) e = refl
+    by (Ok _) (Ok _) (Ok _) e = rw (le-leb (length (report_of schedule book)) buffer (omega (arith, report-most schedule book e)))

@@ -1,4 +1,5 @@
 -- The report that was written out of the tables is that of the definitions, and demand 3 holds of its bytes.
+use Rattle.std.proofs.Common.{Ok}
 use mathlib.Core.Bool.{Bool, true, false}
 use mathlib.Core.List.{List, [], ◌++◌, append-nil}
 use mathlib.Core.Path.{◌≡◌, refl, sym, ap, ap₂, ◌∙◌}
@@ -6,13 +7,11 @@ use Prim.Native.Nat.{ℕ, ◌+◌, ◌*◌, ◌-◌, ◌≤◌, ◌<◌}
 use native.Mathlib.Nat.{pos_of_ne-zero}
 use native.Mathlib.Omega.{arith}
 use lib.Dec.{eqb}
-use lib.ListN.{length, get_or, drop}
+use lib.ListN.{length, get_or, take, drop}
 use borrow.Author.Tests.{eqb-true, eqb-false}
 use Rattle.words.specs.Words.{sum}
 use Rattle.words.specs.Sums.{sum_same}
 use Rattle.wire.specs.Bytes.{M}
-use Rattle.refusal.specs.declared.Checked.TheVariants.{Fine}
-use Rattle.refusal.specs.declared.Answer.TheVariants.{Written}
 use Rattle.schedule.specs.Schedule.{schedule_of}
 use Rattle.book.specs.Records.{C, counterparty_at}
 use Rattle.book.specs.Book.{book_of, parent_of}
@@ -32,10 +31,10 @@ use Rattle.figures.proofs.Size.{report-long}
 use Rattle.figures.proofs.Written.{charge-in}
 use Rattle.figures.proofs.Least.{least-cuts}
 use Rattle.lines.specs.Table.{Heads, table_fund}
-use Rattle.lines.specs.Listing.{source}
+use Rattle.lines.specs.Listing.{Source, source}
 use Rattle.lines.specs.Promise.{Listable, Listed, all_exposures, Table, Writable, ReportPut}
 use Rattle.lines.proofs.Heads.{head-exposure, no-exposure}
-use Rattle.writing.proofs.Whole.{listed-table}
+use Rattle.writing.proofs.Whole.{listed-long, listed-table}
 use Rattle.parties.specs.Rows.{tops_to}
 use Rattle.parties.specs.RowLaws.{tops-le, lower, headed-length, Head, head-is, head_at, heads-rise}
 use Rattle.cells.specs.Cells.{cells_from}
@@ -151,20 +150,38 @@ module _ {b heads : List ℕ} (H : Headed b heads) {groups : ℕ} (eg : groups �
         pub lines-few : Accepted b → n ≤ tiers * most_groups
         lines-few acc = omega (arith, l.few, tops-le b (C b), acc.counterparties)
 
-        table : Accepted b → Room groups sets₀ list₀ → length sets ≡ length sets₀ → Table ranks (source r.limits r.ranking cells sets heads) list groups n
-        table acc q size = listed-table ranks (source r.limits r.ranking cells sets heads) ranks-ordered d.ranking (rw d.ranking at (listable acc q)) (rw d.ranking at l) size heads-long (amounts acc)
+        abbrev S : Source
+        S = source r.limits r.ranking cells sets heads
 
-        pub ready : Accepted b → Room groups sets₀ list₀ → length sets ≡ length sets₀ → {room : ℕ} → head_size + line_size * n ≤ room → Writable (source r.limits r.ranking cells sets heads) list n r.figures room
-        ready acc q size h = record { order = ranks; groups = groups; places = C b; table = table acc q size; heads = heads-are; a3 = d.a3-within; fits = h }
+        -- the list of the lines' entries alone
+        abbrev lined : List ℕ
+        lined = take n list
+
+        lined-long : Accepted b → Room groups sets₀ list₀ → length lined ≡ n
+        lined-long acc q = listed-long ranks S d.ranking (rw d.ranking at (listable acc q)) (rw d.ranking at l)
+
+        table : Accepted b → Room groups sets₀ list₀ → length sets ≡ length sets₀ → Table ranks S lined groups (length lined)
+        table acc q size = listed-table ranks S d.ranking (rw d.ranking at (listable acc q)) (rw d.ranking at l) ranks-ordered size heads-long (amounts acc)
+
+        pub ready : Accepted b → Room groups sets₀ list₀ → length sets ≡ length sets₀ → {room : ℕ} → head_size + line_size * n ≤ room → Writable S lined (length lined) r.figures room
+        ready acc q size h = record {
+          order = ranks;
+          groups = groups;
+          places = C b;
+          table = table acc q size;
+          heads = heads-are;
+          a3 = d.a3-within;
+          fits = omega (arith, lined-long acc q, h);
+        }
 
         pub answered :
-            Passed schedule b → fund_check (book_of b) ≡ Fine → Accepted b → Room groups sets₀ list₀ → length sets ≡ length sets₀ → {before after : List ℕ} → head_size + line_size * n ≤ length before
-            → ReportPut (source r.limits r.ranking cells sets heads) list n r.figures before after → Answered schedule b before after (Written (head_size + line_size * n))
+            Passed schedule b → fund_check (book_of b) ≡ Ok tt → Accepted b → Room groups sets₀ list₀ → length sets ≡ length sets₀ → {before after : List ℕ} → head_size + line_size * n ≤ length before
+            → ReportPut S lined (length lined) r.figures before after → Answered schedule b before after (Ok (head_size + line_size * n))
         answered p f acc q size {before} {after} h w =
             let put : after ≡ report written ++ drop (length (report written)) before = w ranks (C b) groups heads-are (table acc q size) in
             let a : after ≡ report_of schedule b ++ drop (head_size + line_size * n) before = put ∙ ap₂ (λ (x : List ℕ) (k : ℕ). x ++ drop k before) report-is (ap length report-is ∙ size_is) in
             record {
-              answer = ap Written (sym size_is) ∙ fine schedule b before p f (omega (arith, size_is));
+              answer = ap Ok (sym size_is) ∙ fine schedule b before p f (omega (arith, size_is));
               bytes = a;
               cuts = rw a (report-cuts schedule b (drop (head_size + line_size * n) before));
             }

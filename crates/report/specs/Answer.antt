@@ -3,13 +3,10 @@
 --   check_of     the checks 1 to 17
 --   answer_of    a report with its length, or a refusal
 --   Answered    all that the entry promises, demand 3 with it
-use Rattle.std.specs.Prelude.{List, ◌++◌, ◌≡◌, ℕ, length, drop}
+use Rattle.std.specs.Prelude.{List, ◌++◌, ◌≡◌, ℕ, length, drop, Ok, Err}
 use Rattle.words.specs.Words.{◌≤?◌}
-use Rattle.refusal.specs.declared.Checked.{Checked}
-use Rattle.refusal.specs.declared.Answer.{Answer}
-use Rattle.refusal.specs.declared.Answer.TheVariants.{Written, Refused}
 use Rattle.refusal.specs.declared.Refusal.TheVariants.{BufferShort}
-use Rattle.refusal.specs.Chain.{refuse◌unless◌, ◌and_then◌, answer_by}
+use Rattle.refusal.specs.Chain.{refuse◌unless◌, ◌and_then◌, answer_by, Answer, Checked}
 use Rattle.schedule.specs.Schedule.{schedule_of}
 use Rattle.schedule.specs.Check.{schedule_check}
 use Rattle.book.specs.Book.{book_of}
@@ -42,13 +39,13 @@ answer_of schedule book buffer = answer_by (check_of schedule book buffer) (leng
 
 -- what an answer leaves in the lent buffer: what was to be written and then the buffer's own rest, or the buffer as it was
 abbrev pub written_by : Answer → List ℕ → List ℕ → List ℕ
-written_by (Written length) bytes buffer = bytes ++ drop length buffer
-written_by (Refused why) bytes buffer = buffer
+written_by (Ok length) bytes buffer = bytes ++ drop length buffer
+written_by (Err why) bytes buffer = buffer
 
 -- demand 3 of the bytes R, where there is a report
 abbrev pub CutsOf : Answer → Fund → List ℕ → Type 0
-CutsOf (Written length) F R = LeastCuts F R
-CutsOf (Refused why) F R = Unit {0}
+CutsOf (Ok length) F R = LeastCuts F R
+CutsOf (Err why) F R = Unit {0}
 
 -- what the entry promises of its answer r and of the lent buffer, `before` it and `after`
 pub record Answered (schedule book before after : List ℕ) (r : Answer) : Type 0 where

@@ -1,12 +1,14 @@
 // The report of a fund, or refusal 16.
 #![tactic(auto)]
 
+ghost use Rattle.std.specs.Prelude.{◌≡◌};
 ghost use Rattle.fund.specs.Fund.{Rateable, RatedAs};
 ghost use Rattle.report.specs.Answer.{Answered};
 ghost use Rattle.report.specs.Tables.{Headed, Room, Lists};
 
 use fund::Fund;
-use refusal::{Answer, Refusal};
+use lines::ListedTable;
+use refusal::Refusal;
 
 // Refusal 16, or the report, of a fund whose tables are made.
 pub fn finish(
@@ -19,21 +21,24 @@ pub fn finish(
     sets: &mut [u16],
     list: &mut [u16],
     report: &mut [u8],
-) -> Answer
+) -> Result<usize, Refusal>
     requires { (Rateable schedule.now book.now groups cells.now) × (RatedAs schedule.now book.now f) × (Headed book.now heads.now) × (Room groups sets.old list.old) }
     ensures tables { Lists cells.now groups f.ranking sets.old sets.new list.old list.new }
     ensures answered { Answered schedule.now book.now report.old report.new result }
 {
-    let limits = f.limits;
-    let ranking = f.ranking;
-    let figures = f.figures;
-    let n = lines::list_lines(cells, groups, ranking, sets, list);
+    let n = lines::list_lines(cells, groups, f.ranking, sets, list);
     let size = layout::HEAD + layout::LINE * n;
     if report.len() < size {
-        return Answer::Refused(Refusal::BufferShort);
+        return Err(Refusal::BufferShort);
     }
-    writing::put_report(
-        report, limits, ranking, cells, sets, heads, list, n, figures,
-    );
-    Answer::Written(size)
+    let table = ListedTable {
+        limits: &f.limits,
+        ranking: &f.ranking,
+        cells,
+        sets,
+        heads,
+        list: &list[..n],
+    };
+    writing::put_report(report, table, f.figures);
+    Ok(size)
 }

@@ -15,6 +15,7 @@ const LINES_AT: usize = 6;
 const CHARGE_AT: usize = 64;
 
 // The line of a report that stands from `from` on.
+#[tactic(auto, unfolding(figures::specs::Read::line_from))]
 fn line_from(report: &[u8], from: usize) -> Line
     requires { from + line_size ≤ length report.now }
     ensures { result ≡ line_from report.now from }
@@ -37,12 +38,10 @@ pub fn put_report(out: &mut [u8], report: &[u8]) -> usize
     ensures written { Written out.old 0 (report_text (lines_read report.now (lines_in report.now)) (charge_in report.now)) out.new result }
     ensures upper_bound { result ≤ length out.new }
 {
-    let lines = wire::u16_at(report, LINES_AT) as usize;
+    let lines = usize::from(wire::u16_at(report, LINES_AT));
     let mut at = 0;
-    let mut i = 0;
-    while i < lines {
+    for i in 0..lines {
         at = text::put_line(out, at, line_from(report, layout::HEAD + layout::LINE * i));
-        i += 1;
     }
     text::put_charge(out, at, wire::u64_at(report, CHARGE_AT))
 }

@@ -1,23 +1,20 @@
 -- A book put together in lent bytes, part by part.
---   slice-put                   a part that is lent to a copy
 --   over over-start over-next   bytes over the start of others, and what is placed right behind them
 --   over-counts                 other counts in a front
 --   added-put removed-put       the book after a movement
---   same-put                    of the change that a match found
-use mathlib.Core.List.{List, ◌++◌, append_assoc, append-nil}
+use mathlib.Core.List.{List, ◌++◌, append_assoc}
 use mathlib.Core.Path.{◌≡◌, sym, ap, ap₂, ◌∙◌}
 use Prim.Native.Nat.{ℕ, ◌+◌, ◌*◌, ◌-◌, ◌≤◌, ◌<◌}
 use native.Mathlib.Omega.{arith}
 use native.Mathlib.Nat.{sub-zero}
-use lib.ListN.{length, take, drop, length-append, length-drop, drop_of_length-le}
+use lib.ListN.{length, take, drop, length-append}
 use lib.Seq.{length-take-le, take_at, drop_at, take-add, take-take, take-append-le, drop-drop, take_all}
 use Rattle.wire.specs.Bytes.{bytes16, placed}
 use Rattle.book.specs.Records.{C, N, K, asset_start, mitigant_start, mitigants_start, asset_at}
 use Rattle.book.specs.Accepted.{Accepted}
 use Rattle.movement.specs.declared.Spot.{Spot}
-use Rattle.movement.specs.declared.Change.{Change}
 use Rattle.movement.specs.Raw.{slice, front_of}
-use Rattle.movement.specs.Movement.{counts_before, with_asset, without_asset, movement_of, resulting}
+use Rattle.movement.specs.Movement.{counts_before, with_asset, without_asset}
 use Rattle.movement.specs.Promise.{Found}
 use Rattle.resulting.specs.Promise.{BookPut}
 use Rattle.movement.proofs.Reading.{slice-long, slice-add, slice-end}
@@ -25,12 +22,6 @@ use Rattle.movement.proofs.Front.{front_long}
 use Rattle.movement.proofs.Afresh.{counts-within}
 use Rattle.movement.proofs.Parse.{next-asset}
 use Rattle.movement.proofs.Steps.{added-long, removed-long}
-
--- the bytes s over a part of d that was lent from a place to the end
-pub slice-put : (d s x : List ℕ) (at : ℕ) → at ≤ length d → x ≡ s ++ drop (length s) (slice d at (length d - at)) → take at d ++ (x ++ drop (length d - at) (drop at d)) ≡ placed d at s
-slice-put d s x at l e =
-    rw (drop_of_length-le (drop at d) {i = length d - at} (omega (arith, length-drop at d)), append-nil x, e, slice-end d at (length d - at) (omega arith), drop-drop (length s) at d)
-    (sym (append_assoc (take at d) s (drop (at + length s) d)))
 
 -- a over the start of l
 abbrev pub over : List ℕ → List ℕ → List ℕ
@@ -181,7 +172,3 @@ module _ (b d : List ℕ) (acc : Accepted b) where
       let counted = over-counts b fits (N b - 1) (K b - count) d (A ++ (B ++ (D ++ E))) (s₃ ∙ ap (over d) all) in
       let same : l₄ ≡ placed l₃ 8 (bytes16 (N b - 1) ++ bytes16 (K b - count)) = e₄ ∙ ap₂ (λ (x y : ℕ). placed l₃ 8 (bytes16 x ++ bytes16 y)) en ek in
       record { size = rw (ee, ef, eb) (how-long b acc place low high); bytes = same ∙ counted }
-
--- what was put for the change that a match found
-pub same-put : (b asset : List ℕ) {change x : Change} → change ≡ x → {before after : List ℕ} {r : ℕ} → BookPut (resulting b (movement_of x asset)) before after r → BookPut (resulting b (movement_of change asset)) before after r
-same-put b asset e p = rw e p

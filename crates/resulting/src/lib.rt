@@ -16,7 +16,7 @@ fn put_slice(d: &mut [u8], at: usize, s: &[u8], from: usize, end: usize)
     requires { (from ≤ end) × (end ≤ length s.now) × (at + (end - from) ≤ length d.old) }
     ensures { d.new ≡ placed d.old at (slice s.now from (end - from)) }
 {
-    placing::put_all(&mut d[at..], &s[from..end]);
+    d[at..at + (end - from)].copy_from_slice(&s[from..end]);
 }
 
 // Other counts of assets and mitigants in a header; every other byte stays.
@@ -62,12 +62,12 @@ fn put_removed(d: &mut [u8], b: &[u8], place: usize) -> usize
 }
 
 // The book after a movement that can be made, into the lent bytes, and how many it has; every byte behind it stays.
-pub fn put(d: &mut [u8], b: &[u8], change: Change, asset: &[u8]) -> usize
-    requires { (Accepted b.now) × (possible b.now (movement_of change asset.now) ≡ true) × (length b.now + asset_size ≤ length d.old) }
-    ensures { BookPut (resulting b.now (movement_of change asset.now)) d.old d.new result }
+pub fn put(d: &mut [u8], b: &[u8], change: Change<'_>) -> usize
+    requires { (Accepted b.now) × (possible b.now (movement_of change) ≡ true) × (length b.now + asset_size ≤ length d.old) }
+    ensures { BookPut (resulting b.now (movement_of change.entry)) d.old d.new result }
 {
     match change {
-        Change::Add => put_added(d, b, asset),
+        Change::Add(asset) => put_added(d, b, asset),
         Change::Remove(place) => put_removed(d, b, place as usize),
     }
 }

@@ -12,18 +12,14 @@ use cascade::TIERS;
 pub const COLUMNS: usize = TIERS + 7;
 
 // The exposures of group number k by tier.
+#[tactic(auto, unfolding(crate::specs::Rows::row))]
 pub fn row_of(cells: &[u64], k: usize) -> [u64; TIERS]
     requires { columns * (k + 1) ≤ length cells.now }
     ensures { result ≡ row cells.now k }
 {
     let start = COLUMNS * k;
     let mut out = [0u64; TIERS];
-    let mut t = 0;
-    while t < TIERS {
-        let from = start + t;
-        out[t] = cells[from];
-        t += 1;
-    }
+    out.copy_from_slice(&cells[start..start + TIERS]);
     out
 }
 
@@ -33,18 +29,8 @@ pub fn by_rank(amounts: [u64; TIERS], ranking: [usize; TIERS]) -> [u64; TIERS]
     ensures { result ≡ map (by_tier amounts) ranking }
 {
     let mut out = [0u64; TIERS];
-    let mut rank = 0;
-    while rank < TIERS {
-        let t = ranking[rank];
-        out[rank] = amounts[t];
-        rank += 1;
+    for (rank, t) in ranking.iter().enumerate() {
+        out[rank] = amounts[*t];
     }
     out
-}
-
-// A number of a table, as an index.
-pub fn index(n: u16) -> usize
-    ensures { result ≡ n }
-{
-    n as usize
 }

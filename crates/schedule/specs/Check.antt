@@ -7,9 +7,8 @@ use Rattle.words.specs.Words.{◌≤?◌, ◌=?◌}
 use Rattle.wire.specs.Bytes.{M, byte_at}
 use Rattle.limit.specs.declared.Row.{Row}
 use Rattle.limit.specs.Bounds.{most_rate}
-use Rattle.refusal.specs.declared.Checked.{Checked}
 use Rattle.refusal.specs.declared.Refusal.TheVariants.{ScheduleLength, ScheduleMark, ScheduleVersion, ScheduleRates}
-use Rattle.refusal.specs.Chain.{refuse◌unless◌, ◌and_then◌}
+use Rattle.refusal.specs.Chain.{refuse◌unless◌, ◌and_then◌, Checked}
 use Rattle.schedule.specs.declared.Schedule.{Schedule}
 use Rattle.schedule.specs.Schedule.{schedule_size, version, written_of}
 

@@ -1,5 +1,5 @@
 -- A schedule that refusals 1 to 4 let pass fits: schedule-length, rates-fit.
-use Rattle.std.specs.Prelude.{true, List, [], ◌∷◌, ◌≡◌, ℕ}
+use Rattle.std.specs.Prelude.{true, List, [], ◌∷◌, ◌≡◌, ℕ, Ok}
 use Rattle.std.proofs.Common.{◌∙◌}
 use Rattle.std.proofs.Math.ListN.{length}
 use borrow.Author.Tests.{leb-true, eqb-true}
@@ -8,7 +8,6 @@ use Rattle.words.specs.Choice.{each-true}
 use Rattle.wire.specs.Bytes.{M}
 use Rattle.limit.specs.declared.Row.{Row}
 use Rattle.limit.specs.Bounds.{most_rate, RowFits}
-use Rattle.refusal.specs.declared.Checked.TheVariants.{Fine}
 use Rattle.refusal.specs.declared.Refusal.TheVariants.{ScheduleLength, ScheduleMark, ScheduleVersion, ScheduleRates}
 use Rattle.refusal.specs.Chain.{refuse◌unless◌, ◌and_then◌}
 use Rattle.refusal.specs.Laws.{then-first, then-rest, unless-fine}
@@ -50,7 +49,7 @@ tested-fits s e =
       z = row_fits_lem s.z r.1.1.1.1.1.1.1.0;
     }
 
-module _ (s : List ℕ) (e : schedule_check s ≡ Fine) where
+module _ (s : List ℕ) (e : schedule_check s ≡ Ok tt) where
   pub schedule-length : length s ≡ schedule_size
   unfolding schedule_check
   schedule-length =

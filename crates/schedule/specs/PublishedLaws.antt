@@ -1,9 +1,8 @@
 -- The published schedule fits; its bytes are as many as a schedule has and state version 1, refusals 1 to 4 let them pass, they read back as it, and count as ten
 -- times its rates; in version 2, with ten times its rates, it is `published2`.
-use Rattle.std.specs.Prelude.{List, ◌≡◌, refl, ℕ, length, set}
+use Rattle.std.specs.Prelude.{List, ◌≡◌, refl, ℕ, length, set, Ok}
 use Rattle.words.specs.Words.{each_of}
 use Rattle.wire.specs.Bytes.{u16_at, u64_at}
-use Rattle.refusal.specs.declared.Checked.TheVariants.{Fine}
 use Rattle.schedule.specs.Schedule.{schedule_size, version, row_at, times_all, written_of, schedule_of, published, row_bytes, head_bytes, schedule_bytes}
 use Rattle.schedule.specs.Check.{row_fits, rates_fit, fields_check, schedule_check}
 use Rattle.schedule.specs.CountLaws.{Tenfold}
@@ -18,7 +17,7 @@ pub published-length : length (schedule_bytes published) ≡ schedule_size
 unfolding schedule_bytes head_bytes row_bytes each_of
 published-length = refl
 
-pub published-passes : schedule_check (schedule_bytes published) ≡ Fine
+pub published-passes : schedule_check (schedule_bytes published) ≡ Ok tt
 unfolding schedule_bytes head_bytes row_bytes each_of schedule_check fields_check rates_fit row_fits written_of row_at u16_at u64_at
 published-passes = refl
 

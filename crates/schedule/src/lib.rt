@@ -9,7 +9,7 @@ ghost use Rattle.schedule.specs.Schedule.{schedule_size, row_count, version, row
 ghost use Rattle.schedule.specs.Check.{schedule_marked, known, row_fits, rates_fit, fields_check, schedule_check};
 
 use limit::Row;
-use refusal::{Checked, Refusal};
+use refusal::Refusal;
 
 // The versions: rates per mille, and rates in ten-thousandths.
 pub const PER_MILLE: u16 = 1;
@@ -61,7 +61,7 @@ fn rate_at(s: &[u8], at: usize, times: u64) -> u64
     requires { (at + 2 ≤ length s.now) × (times ≤ 10) }
     ensures { result ≡ times * u16_at s.now at }
 {
-    times * wire::u16_at(s, at) as u64
+    times * u64::from(wire::u16_at(s, at))
 }
 
 // Row n of a schedule, its rates so many times: 0 is c, 7 is z.
@@ -85,8 +85,8 @@ pub fn schedule_at(s: &[u8]) -> Schedule
 {
     let n = times(version(s));
     Schedule {
-        first: wire::u16_at(s, 6) as u64,
-        second: wire::u16_at(s, 8) as u64,
+        first: u64::from(wire::u16_at(s, 6)),
+        second: u64::from(wire::u16_at(s, 8)),
         c: row_at(s, 0, n),
         d: row_at(s, 1, n),
         e: row_at(s, 2, n),
@@ -139,22 +139,22 @@ fn known(version: u16) -> bool
 }
 
 // Refusals 2 to 4, of a schedule that has its length.
-fn check_fields(s: &[u8]) -> Checked
+#[tactic(auto, using(refusal::specs::Laws::then_err, refusal::specs::Laws::then_ok), unfolding(crate::specs::Check::fields_check))]
+fn check_fields(s: &[u8]) -> Result<(), Refusal>
     requires { schedule_size ≤ length s.now }
     ensures { result ≡ fields_check s.now }
 {
-    let mark = refusal::unless(Refusal::ScheduleMark, marked(s));
-    let version = refusal::unless(Refusal::ScheduleVersion, known(version(s)));
-    let rates = refusal::unless(Refusal::ScheduleRates, rates_fit(schedule_at(s)));
-    refusal::and_then(mark, refusal::and_then(version, rates))
+    refusal::unless(Refusal::ScheduleMark, marked(s))?;
+    refusal::unless(Refusal::ScheduleVersion, known(version(s)))?;
+    refusal::unless(Refusal::ScheduleRates, rates_fit(schedule_at(s)))
 }
 
 // Refusals 1 to 4, of any bytes.
-pub fn check(s: &[u8]) -> Checked
+pub fn check(s: &[u8]) -> Result<(), Refusal>
     ensures { result ≡ schedule_check s.now }
 {
     if s.len() != SIZE {
-        return Checked::Bad(Refusal::ScheduleLength);
+        return Err(Refusal::ScheduleLength);
     }
     check_fields(s)
 }

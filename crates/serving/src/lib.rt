@@ -4,14 +4,13 @@
 
 ghost use Rattle.desks.specs.Pass.{Servable, Served};
 
-use book::Assets;
+use header::Sections;
 
 // Every asset in book order.
+#[tactic(auto, using(header::specs::Sections::section_counts, header::specs::Sections::section_assets))]
 pub fn serve(
     b: &[u8],
-    assets: Assets,
-    start: usize,
-    n: usize,
+    sections: Sections,
     words: &[u64],
     rows: &[u16],
     places: &[u16],
@@ -20,23 +19,21 @@ pub fn serve(
     still: &mut [u64],
     desks: &mut [u64],
 )
-    requires { Servable b.now assets start n words.now rows.now places.now covered.now rests.now still.old desks.old }
+    requires { Servable b.now sections words.now rows.now places.now covered.now rests.now still.old desks.old }
     ensures { Served b.now covered.now rests.now still.old desks.old still.new desks.new }
 {
     let tiers = columns::tiers();
     let mut first = 1;
-    let mut place = 1;
-    while place <= n {
-        let a = book::asset_at(b, assets, place);
-        let desk = a.desk as usize;
-        let end = first + a.count as usize;
-        let who = a.counterparty as usize;
+    for place in 1..sections.asset_count + 1 {
+        let a = book::asset_at(b, sections.assets, place);
+        let desk = usize::from(a.desk);
+        let end = first + usize::from(a.count);
+        let who = usize::from(a.counterparty);
         desks::serve_parts(
-            b, start, first, end, desk, words, rows, &tiers, covered, still, desks,
+            b, sections, first, end, desk, words, rows, &tiers, covered, still, desks,
         );
         let cell = desks::rest_cell(rows[who], places[place], &tiers);
         bills::serve(still, desks, cell, rests[place], desk);
         first = end;
-        place += 1;
     }
 }

@@ -19,13 +19,10 @@ fn stand_group(
 {
     let at = COLUMNS * k;
     let mut standing: u64 = 0;
-    let mut i = 0;
-    while i < TIERS {
-        let t = ranking[i];
+    for t in ranking {
         let cut = cascade::cut(limits[t], exposures[t], standing);
         cells[at + t] = exposures[t] - cut.excess;
         standing = cut.standing;
-        i += 1;
     }
 }
 
@@ -34,10 +31,8 @@ pub fn stand(cells: &mut [u64], groups: usize, limits: [u64; TIERS], ranking: [u
     requires { Groups cells.old groups ranking }
     ensures { Stood groups limits ranking cells.old cells.new }
 {
-    let mut k = 0;
-    while k < groups {
+    for k in 0..groups {
         let exposures = rows::row_of(cells, k);
         stand_group(cells, k, exposures, limits, ranking);
-        k += 1;
     }
 }

@@ -4,10 +4,9 @@
 --   answer_text     what is printed of an answer
 --   lines_read      the lines that stand in a report's bytes
 --   line_room       room for any printed line
-use Rattle.std.specs.Prelude.{List, [], ◌∷◌, ◌++◌, ℕ, zero, suc}
+use Rattle.refusal.specs.Chain.{Answer}
+use Rattle.std.specs.Prelude.{List, [], ◌∷◌, ◌++◌, ℕ, zero, suc, Ok, Err}
 use Rattle.words.specs.Words.{each_of}
-use Rattle.refusal.specs.declared.Answer.{Answer}
-use Rattle.refusal.specs.declared.Answer.TheVariants.{Written, Refused}
 use Rattle.refusal.specs.Refusals.{number_of, place_of}
 use Rattle.figures.specs.declared.Line.{Line}
 use Rattle.figures.specs.Read.{line_at}
@@ -43,8 +42,8 @@ report_text lines charge = each_of line_text lines ++ charge_text charge
 
 -- what is printed of an answer, with the report's lines and its charge
 abbrev pub answer_text : Answer → List Line → ℕ → List ℕ
-answer_text (Written length) lines charge = report_text lines charge
-answer_text (Refused why) lines charge = refused_text (number_of why) (place_of why)
+answer_text (Ok length) lines charge = report_text lines charge
+answer_text (Err why) lines charge = refused_text (number_of why) (place_of why)
 
 -- the first n lines of the report R, read off its bytes
 unfoldable pub lines_read : List ℕ → ℕ → List Line

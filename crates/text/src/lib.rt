@@ -15,8 +15,8 @@ pub fn put_line(out: &mut [u8], at: usize, line: Line) -> usize
     ensures written { Written out.old at (line_text line) out.new result }
     ensures upper_bound { result ≤ at + line_room }
 {
-    let a = digits::put_number(out, at, line.top as u64, b' ');
-    let b = digits::put_number(out, a, line.tier as u64, b' ');
+    let a = digits::put_number(out, at, u64::from(line.top), b' ');
+    let b = digits::put_number(out, a, u64::from(line.tier), b' ');
     let c = digits::put_number(out, b, line.exposure, b' ');
     let d = digits::put_number(out, c, line.limit, b' ');
     let e = digits::put_number(out, d, line.left, b' ');

@@ -64,13 +64,7 @@ pub fn unrounded_limits(s: Schedule, vaf: u64, stressed: u64, base: i64, w: u64)
 pub fn in_cents(unrounded: [u64; TIERS]) -> [u64; TIERS]
     ensures { result ≡ map (cents_of ten_thousandths) unrounded }
 {
-    let mut limits = [0u64; TIERS];
-    let mut t = 0;
-    while t < TIERS {
-        limits[t] = limit::cents(unrounded[t]);
-        t += 1;
-    }
-    limits
+    unrounded.map(limit::cents)
 }
 
 // The A3 limit of a fund; `stressed` is VAF'.

@@ -1,4 +1,5 @@
 -- VAF and VAF' of a fund that refusals 14 and 15 let pass, at most M: vaf-le, stressed-vaf-le; their differences don't pass below 0: vaf-exact, stressed-vaf-exact.
+use Rattle.std.proofs.Common.{Ok}
 use mathlib.Core.Path.{◌≡◌}
 use mathlib.Core.List.{List}
 use mathlib.Core.Bool.{true, ◌&&◌}
@@ -8,7 +9,6 @@ use borrow.Author.Tests.{leb-true}
 use Rattle.words.specs.Words.{◌≤?◌}
 use Rattle.words.specs.Choice.{both}
 use Rattle.wire.specs.Bytes.{M}
-use Rattle.refusal.specs.declared.Checked.TheVariants.{Fine}
 use Rattle.refusal.specs.declared.Refusal.TheVariants.{ReinsuranceValues, StressedAssets}
 use Rattle.refusal.specs.Chain.{refuse◌unless◌}
 use Rattle.refusal.specs.Laws.{then-first, then-rest, unless-fine}
@@ -19,7 +19,7 @@ use Rattle.exposure.specs.Values.{reinsurance_values, all_netted, stressed_less_
 use Rattle.assets.proofs.Laws.{netted-le-values}
 
 -- ---- a fund that 14 and 15 let pass
-module _ (B : Book) (e : fund_check B ≡ Fine) where
+module _ (B : Book) (e : fund_check B ≡ Ok tt) where
   held : reinsurance_values B ≤ B.total
   unfolding fund_check
   held =
@@ -47,6 +47,6 @@ module _ (b : List ℕ) (acc : Accepted b) where
   unfolding VAF book_of
   vaf-le = omega (arith, acc.total)
 
-  pub vaf-exact : fund_check (book_of b) ≡ Fine → VAF (book_of b) + all_netted (book_of b) ≡ total b
+  pub vaf-exact : fund_check (book_of b) ≡ Ok tt → VAF (book_of b) + all_netted (book_of b) ≡ total b
   unfolding VAF book_of
   vaf-exact e = omega (arith, held (book_of b) e, netted-le-values b acc)

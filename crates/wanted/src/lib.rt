@@ -1,50 +1,139 @@
 // What an entry wants of a fund: the report, the bills or the answers, and what each of them promises. How one is added: docs/ENTRIES.md.
 #![tactic(auto)]
 
+ghost use Rattle.std.specs.Prelude.{List, ℕ};
+ghost use Rattle.refusal.specs.Chain.{Answer};
 ghost use Rattle.fund.specs.Tables.{FundTables};
+ghost use Rattle.report.specs.Answer.{Answered};
 ghost use Rattle.report.specs.Tables.{Headed, Room};
-ghost use Rattle.wanted.specs.Wanted.{Promised};
+ghost use Rattle.billing.specs.Billed.{Billed};
+ghost use Rattle.questions.specs.Headroom.{Asked};
+ghost use Rattle.wanted.specs.Wanted.{Unchanged};
+ghost use Rattle.wanted.specs.Refusing.{reported, billed, asked};
 
-use fund::Fund;
-use refusal::Answer;
+use fund::Opened;
+use refusal::Refusal;
 
-// What an entry makes of a fund; a rate in ten-thousandths. The questions of Headroom stand beside it: `asked` is empty for the others.
-#[derive(Clone, Copy)]
-pub enum Wanted {
-    Report,
-    Bills(u64),
-    Headroom,
+// What an entry makes of a fund.
+pub trait Wanted: Drop {
+    // What is promised of a schedule's and a book's bytes, the lent ones before and after, and the answer.
+    ghost promise: { Self → List ℕ → List ℕ → List ℕ → List ℕ → Answer → Type 0 };
+
+    fn finish(
+        self,
+        schedule: &[u8],
+        book: &[u8],
+        made: Opened<'_>,
+        lent: &mut [u8],
+    ) -> Result<usize, Refusal>
+        requires { (FundTables schedule.now book.now made.groups made.fund made.words.now made.rows.now made.places.now made.covered.now made.rests.now made.cells.now) × (Headed book.now made.heads.now) × (Room made.groups made.sets.now made.list.now) }
+        ensures { promise self schedule.now book.now lent.old lent.new result };
+
+    // What 1 to 15 and 17 refuse changes no byte.
+    ghost refused: { (w : Self) → Unchanged (promise w) };
 }
 
-// What is wanted of a fund that 14 and 15 let pass.
-pub fn finish(
-    schedule: &[u8],
-    book: &[u8],
-    groups: usize,
-    f: Fund,
-    words: &[u64],
-    rows: &[u16],
-    heads: &[u16],
-    rests: &[u64],
-    places: &[u16],
-    covered: &[u64],
-    cells: &mut [u64],
-    sets: &mut [u16],
-    list: &mut [u16],
-    wanted: Wanted,
-    asked: &[u8],
-    lent: &mut [u8],
-) -> Answer
-    requires { (FundTables schedule.now book.now groups f words.now rows.now places.now covered.now rests.now cells.old) × (Headed book.now heads.now) × (Room groups sets.old list.old) }
-    ensures { Promised wanted schedule.now book.now asked.now lent.old lent.new result }
-{
-    match wanted {
-        Wanted::Report => report::finish(schedule, book, groups, f, heads, cells, sets, list, lent),
-        Wanted::Bills(rate) => billing::finish(
-            schedule, book, groups, f, rate, words, rows, places, covered, rests, cells, lent,
-        ),
-        Wanted::Headroom => questions::finish(
-            schedule, book, groups, f, asked, words, rows, cells, lent,
-        ),
+// The report.
+#[derive(Clone, Copy)]
+pub struct Report;
+
+impl Wanted for Report {
+    ghost promise = { λ w schedule book before after r. Answered schedule book before after r };
+
+    ghost refused = { λ w. reported };
+
+    fn finish(
+        self,
+        schedule: &[u8],
+        book: &[u8],
+        made: Opened<'_>,
+        lent: &mut [u8],
+    ) -> Result<usize, Refusal> {
+        let Opened {
+            groups,
+            fund,
+            heads,
+            cells,
+            sets,
+            list,
+            ..
+        } = made;
+        report::finish(schedule, book, groups, fund, heads, cells, sets, list, lent)
+    }
+}
+
+// The desks' bills, at a rate in ten-thousandths.
+#[derive(Clone, Copy)]
+pub struct Bills {
+    pub rate: u64,
+}
+
+impl Wanted for Bills {
+    ghost promise = { λ w schedule book before after r. Billed schedule book w.rate before after r };
+
+    ghost refused = { λ w. billed w.rate };
+
+    fn finish(
+        self,
+        schedule: &[u8],
+        book: &[u8],
+        made: Opened<'_>,
+        lent: &mut [u8],
+    ) -> Result<usize, Refusal> {
+        let Opened {
+            groups,
+            fund,
+            words,
+            rows,
+            rests,
+            places,
+            covered,
+            cells,
+            ..
+        } = made;
+        billing::finish(
+            schedule, book, groups, fund, self.rate, words, rows, places, covered, rests, cells,
+            lent,
+        )
+    }
+}
+
+// The answers to a list of questions.
+#[derive(Clone, Copy)]
+pub struct Headroom<'a> {
+    pub questions: &'a [u8],
+}
+
+impl<'a> Wanted for Headroom<'a> {
+    ghost promise = { λ w schedule book before after r. Asked schedule book w.questions.now before after r };
+
+    ghost refused = { λ w. asked w.questions.now };
+
+    fn finish(
+        self,
+        schedule: &[u8],
+        book: &[u8],
+        made: Opened<'_>,
+        lent: &mut [u8],
+    ) -> Result<usize, Refusal> {
+        let Opened {
+            groups,
+            fund,
+            words,
+            rows,
+            cells,
+            ..
+        } = made;
+        questions::finish(
+            schedule,
+            book,
+            groups,
+            fund,
+            self.questions,
+            words,
+            rows,
+            cells,
+            lent,
+        )
     }
 }

@@ -4,7 +4,8 @@ use mathlib.Core.Bool.{Bool}
 use mathlib.Core.List.{List, ◌++◌, map}
 use Prim.Native.Nat.{ℕ, ◌+◌, ◌*◌, ◌-◌, ◌≤◌}
 use native.Mathlib.Omega.{arith}
-use lib.ListN.{length, drop}
+use lib.ListN.{length, take, drop}
+use lib.Seq.{take-length, length-take-le}
 use Rattle.words.specs.Words.{sum_of, those}
 use Rattle.wire.specs.Bytes.{M, placed}
 use Rattle.wire.proofs.Laws.{placed-before}
@@ -104,24 +105,35 @@ module _ {order : ℕ → ℕ → Bool} {S : Source} {list : List ℕ} {groups n
         ∙ placed-before start head lines (omega (arith, head-long (head_of F), joined-long (lines_of F), count-is))
         ∙ ap (λ (k : ℕ). head ++ lines ++ drop k start) z
 
--- a table that `list_lines` has listed by rank
-pub listed-table :
-    (order : ℕ → ℕ → Bool) (S : Source) → Ordered order (by_tier S.limits) → S.ranking ≡ ranked order tiers → {groups : ℕ} {sets₀ list₀ list : List ℕ} {n : ℕ}
-    → Listable S.cells groups (ranked order tiers) sets₀ list₀ → Listed S.cells groups (ranked order tiers) sets₀ S.sets list₀ list n
-    → length S.sets ≡ length sets₀ → groups ≤ length S.heads → all_exposures S.cells groups ≤ 900 * M → Table order S list groups n
-listed-table order S o q {groups} {sets₀} {list₀} {list} {n} a l size tops few =
-    let by_rank = ranked order tiers in
-    let long = length-ranked order tiers in
-    let n-is : n ≡ length (those (shown_by S.cells by_rank) (all_entries groups all_ranks)) = l.count ∙ sym (entries-many by_rank a.ranks long S.cells groups) in
-    record {
+-- a table that `list_lines` has listed by rank, with the lines' entries alone as its list
+module _
+    (order : ℕ → ℕ → Bool) (S : Source) (q : S.ranking ≡ ranked order tiers) {groups : ℕ} {sets₀ list₀ list : List ℕ} {n : ℕ}
+    (a : Listable S.cells groups (ranked order tiers) sets₀ list₀) (l : Listed S.cells groups (ranked order tiers) sets₀ S.sets list₀ list n)
+  where
+    abbrev ranks : List ℕ
+    ranks = ranked order tiers
+
+    long : length ranks ≡ tiers
+    long = length-ranked order tiers
+
+    n-is : n ≡ length (those (shown_by S.cells ranks) (all_entries groups all_ranks))
+    n-is = l.count ∙ sym (entries-many ranks a.ranks long S.cells groups)
+
+    pub listed-long : length (take n list) ≡ n
+    listed-long = length-take-le n list (omega (arith, listed-size a long n-is l.entries, l.few, a.room))
+
+    pub listed-table : Ordered order (by_tier S.limits) → length S.sets ≡ length sets₀ → groups ≤ length S.heads → all_exposures S.cells groups ≤ 900 * M → Table order S (take n list) groups (length (take n list))
+    listed-table o size tops few = record {
       ordered = o;
       by_rank = q;
       few = a.few;
       rows = a.rows;
       places = omega (arith, a.places);
       tops = tops;
-      long = omega (arith, listed-size a long n-is l.entries, l.few, a.room);
+      long = omega arith;
       each = set-each S.cells groups sets₀ l.tier_sets;
-      entries = ap₂ (λ (r es : List ℕ). map (of_rank r) es) q (entries-first a long n-is l.entries) ∙ entries-are by_rank a.ranks long S.cells groups;
+      entries =
+          ap (map (of_rank S.ranking)) (take-length (take n list))
+          ∙ ap₂ (λ (r es : List ℕ). map (of_rank r) es) q (entries-first a long n-is l.entries) ∙ entries-are ranks a.ranks long S.cells groups;
       amounts = few;
     }

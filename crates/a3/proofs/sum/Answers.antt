@@ -12,10 +12,7 @@ use Rattle.a3.proofs.sum.Goals.{After-part-total}
 
 pub loop-k-init : goal.loop-k-init
 unfolding sum
-loop-k-init c = (omega arith, refl, omega arith)
-
-pub part-total-requires : goal.part-total-requires
-part-total-requires c = (omega arith, omega arith, c.requires.2)
+loop-k-init c = (refl, omega arith)
 
 part-within : (c : After-part-total) → c.part-total.result ≤ 5 * most_limit
 part-within c =
@@ -27,8 +24,7 @@ overflow_add-total c = omega (arith, part-within c)
 pub loop-k-preserved : goal.loop-k-preserved
 loop-k-preserved c =
     let l = c.loop-k in (
-      omega arith,
-      ap₂ ◌+◌ l.invariant.1 c.part-total.ensures ∙ sum-next (λ j. a3_part (a3_at c.args.cells.now j) (by_tier c.args.limits)) l.k,
+      ap₂ ◌+◌ l.invariant.0 c.part-total.ensures ∙ sum-next (λ j. a3_part (a3_at c.args.cells.now j) (by_tier c.args.limits)) l.k,
       omega (arith, part-within c),
     )
 
@@ -36,4 +32,4 @@ pub returns : goal.returns
 returns c =
     let l = c.loop-k in
     let e : l.k ≡ c.args.groups = omega arith in
-    (l.invariant.1 ∙ ap (sum (λ j. a3_part (a3_at c.args.cells.now j) (by_tier c.args.limits))) e, omega arith)
+    (l.invariant.0 ∙ ap (sum (λ j. a3_part (a3_at c.args.cells.now j) (by_tier c.args.limits))) e, omega arith)

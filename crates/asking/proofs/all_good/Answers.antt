@@ -1,57 +1,30 @@
-use mathlib.Core.Bool.{true, false}
-use mathlib.Core.Path.{◌≡◌, refl, sym, ◌∙◌}
-use native.Mathlib.Omega.{arith}
-use Rattle.words.specs.Choice.{not-true, not-false}
-use Rattle.words.specs.Below.{all_below, below_next, below-not}
+-- `asking::all_good` meets its contract: `all` over the numbers below n is the test at each of them.
+use Rattle.std.proofs.Common.{◌≡◌, ℕ, suc, zero, Bool, true, false, ◌&&◌, map, ◌∷◌, [], refl, sym, ap, ◌∙◌, add-one, arith, rules}
+use Rattle.std.specs.List.{list_all, range_with_len}
+use Rattle.std.proofs.lemmas.Iterator.{YieldsList-from_range}
+use Rattle.std.proofs.lemmas.Iterator.Search.{all_from_yields_List}
+use Rattle.std.proofs.lemmas.List.Folds.{list_all-append, list_all-map}
+use Rattle.std.proofs.lemmas.List.FromFn.{map-range_with_len_more}
+use Rattle.words.specs.Below.{all_below}
 use Rattle.asking.specs.Questions.{place_at, kind_at, good_question}
-use borrow.Author.Rules.{rules}
 use Rattle.asking.proofs.all_good.Goals as goal
 
-pub loop-k-init : goal.loop-k-init
+turned : (a b : Bool) → (a && (b && true)) ≡ (b && a)
+turned true true = refl
+turned true false = refl
+turned false true = refl
+turned false false = refl
+
+all-range : (n : ℕ) (t : ℕ → Bool) → list_all (λ b. b) (map t (range_with_len 0 n)) ≡ all_below n t
 unfolding all_below
-loop-k-init c = (omega arith, refl)
-
-pub overflow_mul-k : goal.overflow_mul-k
-overflow_mul-k c = record { fits = omega arith }
-
-pub u16_at-place-requires : goal.u16_at-place-requires
-u16_at-place-requires c = omega arith
-
-pub overflow_mul-kind : goal.overflow_mul-kind
-overflow_mul-kind c = record { fits = omega arith }
-
-pub overflow_add-kind : goal.overflow_add-kind
-overflow_add-kind c = record { fits = omega arith }
-
-pub bounds-questions-k : goal.bounds-questions-k
-bounds-questions-k c = omega arith
-
-pub good_question-requires : goal.good_question-requires
-good_question-requires c = search rules
-
-pub returns-then-not-good_question : goal.returns-then-not-good_question
-returns-then-not-good_question c =
-    let l = c.loop-k in
-    let q = c.args.questions.now in
-    let bad : good_question c.args.c (place_at q l.k) (kind_at q l.k) ≡ false = rw c.u16_at-place.ensures at (sym c.good_question.ensures ∙ not-true _ c.if-not-good_question.true-raw) in
-    sym (below-not c.args.n (λ j. good_question c.args.c (place_at q j) (kind_at q j)) l.k (omega arith) bad)
-
-pub overflow_add-k : goal.overflow_add-k
-overflow_add-k c = record { fits = omega arith }
-
-pub loop-k-smaller : goal.loop-k-smaller
-loop-k-smaller c = omega arith
-
-pub loop-k-preserved : goal.loop-k-preserved
-loop-k-preserved c =
-    let l = c.loop-k in
-    let q = c.args.questions.now in
-    let good : good_question c.args.c (place_at q l.k) (kind_at q l.k) ≡ true = rw c.u16_at-place.ensures at (sym c.good_question.ensures ∙ not-false _ c.if-not-good_question.false-raw) in
-    (omega arith, below_next l.k (λ j. good_question c.args.c (place_at q j) (kind_at q j)) l.invariant.1 good)
+all-range zero t = refl
+all-range (suc n) t =
+    ap (λ k. list_all (λ b. b) (map t (range_with_len 0 k))) (sym (add-one n)) ∙ ap (list_all (λ b. b)) (map-range_with_len_more t 0 n n (omega arith)) ∙ list_all-append (λ b. b) (map t (range_with_len 0 n)) (t n ∷ [])
+    ∙ ap (λ b. b && (t n && true)) (all-range n t) ∙ turned (all_below n t) (t n)
 
 pub returns : goal.returns
 returns c =
     let a = c.args in
-    let l = c.loop-k in
-    let n : l.k ≡ a.n = omega arith in
-    sym (rw n at l.invariant.1)
+    let test : ℕ → Bool = λ k. good_question a.c (place_at a.questions.now k) (kind_at a.questions.now k) in
+    all_from_yields_List test _ _ c.all.result c.all.ensures.ran (YieldsList-from_range 0 a.n a.n (cc) (omega arith)) (λ x b q k. search rules)
+    ∙ sym (list_all-map (λ b. b) test (range_with_len 0 a.n)) ∙ all-range a.n test

@@ -4,18 +4,14 @@ use Prim.Native.Nat.{ℕ, ◌<◌}
 use native.Mathlib.Omega.{arith}
 use lib.ListN.{length, get_or, length-replicate}
 use Rattle.bills.specs.Bills.{desk_count}
-use Rattle.book.specs.HeaderLaws.{header-counts, mitigants-from}
 use Rattle.fund.proofs.Limits.{taken}
 use Rattle.billing.proofs.Standing.{standable}
 use Rattle.billing.proofs.Written.{lined, serve-room, excesses-are}
 use Rattle.billing.proofs.excesses.Goals as goal
 use Rattle.billing.proofs.excesses.Goals.{After-stand}
 
-pub header_at-h-requires : goal.header_at-h-requires
-header_at-h-requires c = omega (arith, (taken c.requires.0.rateable.passed).size)
-
-pub assets_of-first-requires : goal.assets_of-first-requires
-assets_of-first-requires c = omega (arith, (taken c.requires.0.rateable.passed).size)
+pub sections_of-sections-requires : goal.sections_of-sections-requires
+sections_of-sections-requires c = omega (arith, (taken c.requires.0.rateable.passed).size)
 
 pub bounds-desks-0 : goal.bounds-desks-0
 bounds-desks-0 c = omega (arith, ap length c.requires.1, length-replicate {A = ℕ} desk_count 0)
@@ -30,20 +26,17 @@ byte d k = omega (arith, d.shared_slice_known-2-1.given k)
 pub serve-requires : goal.serve-requires
 serve-requires c =
     let t = c.requires.0 in
-    let h = c.header_at-h.ensures in
     record {
       accepted = taken t.rateable.passed;
-      records = c.assets_of-first.ensures;
-      section = mitigants-from c.args.book.now h c.mitigants_start-behind.ensures;
-      count = (header-counts c.args.book.now h).1;
+      section = c.sections_of-sections.ensures;
       rowed = t.rowed;
       placed = t.placed;
       covered-size = t.covered-size;
       rests-size = t.rests-size;
-      lined = lined t (byte (goal.at.serve-requires c).After-stand) c.stand.ensures c.requires.1 c.difference.ensures;
-      room = serve-room t (byte (goal.at.serve-requires c).After-stand) c.stand.ensures c.requires.1 c.difference.ensures;
+      lined = lined t (byte (goal.at.serve-requires c).After-stand) c.stand.ensures c.requires.1 c.saturating_sub.ensures;
+      room = serve-room t (byte (goal.at.serve-requires c).After-stand) c.stand.ensures c.requires.1 c.saturating_sub.ensures;
     }
 
 pub returns : goal.returns
 returns c =
-    excesses-are c.requires.0 (byte (goal.at.returns c).After-stand) c.stand.ensures c.requires.1 c.difference.ensures c.serve.ensures
+    excesses-are c.requires.0 (byte (goal.at.returns c).After-stand) c.stand.ensures c.requires.1 c.saturating_sub.ensures c.serve.ensures

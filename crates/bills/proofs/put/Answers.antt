@@ -11,25 +11,19 @@ pub loop-d-init : goal.loop-d-init
 loop-d-init c =
     let a = c.args in
     let x = by_desk a.excesses.now in
-    (omega arith, running-start x a.rate, cost-start x a.rate, search rules, amounts-none a.bills.now (all x a.rate) 0 (omega arith))
-
-pub offset_bounds-excesses-d : goal.offset_bounds-excesses-d
-offset_bounds-excesses-d c = search rules
-
-pub bounds-excesses-d : goal.bounds-excesses-d
-bounds-excesses-d c = omega arith
+    (running-start x a.rate, cost-start x a.rate, search rules, amounts-none a.bills.now (all x a.rate) 0 (omega arith))
 
 pub overflow_add-running : goal.overflow_add-running
 overflow_add-running c =
     let a = c.args in
     let l = c.loop-d in
-    record { fits = omega (arith, running-within (by_desk a.excesses.now) a.rate l.d (omega arith) l.invariant.1) }
+    record { fits = omega (arith, running-within (by_desk a.excesses.now) a.rate l.d (omega arith) l.invariant.0) }
 
 pub overflow_mul-cost : goal.overflow_mul-cost
 overflow_mul-cost c =
     let a = c.args in
     let l = c.loop-d in
-    record { fits = product-fits _ a.rate (omega (arith, running-within (by_desk a.excesses.now) a.rate l.d (omega arith) l.invariant.1)) (omega arith) }
+    record { fits = product-fits _ a.rate (omega (arith, running-within (by_desk a.excesses.now) a.rate l.d (omega arith) l.invariant.0)) (omega arith) }
 
 pub overflow_mul-d : goal.overflow_mul-d
 overflow_mul-d c = record { fits = omega arith }
@@ -38,33 +32,26 @@ pub overflow_sub-cost : goal.overflow_sub-cost
 overflow_sub-cost c =
     let a = c.args in
     let l = c.loop-d in
-    cost-grows (by_desk a.excesses.now) a.rate l.d l.invariant.1 l.invariant.2
+    cost-grows (by_desk a.excesses.now) a.rate l.d l.invariant.0 l.invariant.1
 
 pub put_u64-requires : goal.put_u64-requires
-put_u64-requires c = omega (arith, c.loop-d.invariant.3)
-
-pub overflow_add-d : goal.overflow_add-d
-overflow_add-d c = record { fits = omega arith }
-
-pub loop-d-smaller : goal.loop-d-smaller
-loop-d-smaller c = omega arith
+put_u64-requires c = omega (arith, c.loop-d.invariant.2)
 
 pub loop-d-preserved : goal.loop-d-preserved
 loop-d-preserved c =
     let a = c.args in
     let l = c.loop-d in
     let x = by_desk a.excesses.now in
-    let b = bill-next x a.rate l.d (omega arith) l.invariant.1 l.invariant.2 in
+    let b = bill-next x a.rate l.d (omega arith) l.invariant.0 l.invariant.1 in
     let p : 0 + 8 * l.d ≡ 8 * l.d = omega arith in (
-      omega arith,
-      running-next x a.rate l.d l.invariant.1,
-      cost-next x a.rate l.d l.invariant.1,
+      running-next x a.rate l.d l.invariant.0,
+      cost-next x a.rate l.d l.invariant.0,
       search rules,
-      amounts-placed a.bills.now (all x a.rate) 0 {i = l.d} (omega (arith, bills-long x a.rate)) (omega (arith, bills-long x a.rate)) l.invariant.4 (rw (b, ← p) at c.put_u64.ensures),
+      amounts-placed a.bills.now (all x a.rate) 0 {i = l.d} (omega (arith, bills-long x a.rate)) (omega (arith, bills-long x a.rate)) l.invariant.3 (rw (b, ← p) at c.put_u64.ensures),
     )
 
 pub returns : goal.returns
 returns c =
     let a = c.args in
     let l = c.loop-d in
-    all-put (by_desk a.excesses.now) a.rate a.bills.now l.d (omega arith) l.invariant.4
+    all-put (by_desk a.excesses.now) a.rate a.bills.now l.d (omega arith) l.invariant.3

@@ -28,7 +28,7 @@ returns c =
       c.u64_at-3.ensures,
       c.u64_at-2.ensures,
       c.u64_at.ensures,
-      c.byte.ensures,
+      c.pick.ensures,
       c.masked_at.ensures,
       c.u16_at.ensures,
       told (version c.args.b.now =? 2) c.requires.1,

@@ -1,4 +1,4 @@
--- `check_book`. The loop's invariant: both sums are taken below the place. The measure: the places left.
+-- `check_book`. The loop's invariant: both sums are taken below the place.
 use mathlib.Core.List.{List}
 use Prim.Native.Nat.{ℕ, ◌+◌, ◌-◌, ◌<◌}
 use Rattle.book.specs.Records.{N}
@@ -14,6 +14,3 @@ pub record Summing (b : List ℕ) (values above place : ℕ) : Type 0 where
 
 abbrev pub invariant-loop-place : goal.invariant-loop-place
 invariant-loop-place l = Summing l.b l.values l.stressed l.place
-
-abbrev pub decreases-loop-place : goal.decreases-loop-place
-decreases-loop-place l = N l.b + 1 - l.place

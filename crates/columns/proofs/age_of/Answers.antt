@@ -7,6 +7,7 @@ use lib.Bits.{bit_and, and_mask}
 use lib.Dec.{leb}
 use borrow.Author.Tests.{eqb-true, leb-true, leb-false, lt-ltb, le-ltb}
 use Rattle.std.specs.Prelude.{if◌then◌else◌}
+use Rattle.std.specs.Int.{from_bool}
 use Rattle.words.specs.Words.{◌≤?◌, ◌<?◌, ◌=?◌}
 use Rattle.words.specs.Choice.{if-le}
 use Rattle.words.specs.Below.{all_below, below}
@@ -14,10 +15,10 @@ use Rattle.columns.specs.Column.{age_at, stage_of}
 use Rattle.columns.proofs.ColumnLaws.{age-le}
 use Rattle.columns.proofs.age_of.Goals as goal
 
-passed : (e m : ℕ) → 4 * e + (if 2 <? m then 1 else 0) + (if 11 <? m then 1 else 0) + (if 23 <? m then 1 else 0) ≡ 4 * e + stage_of m
+passed : (e m : ℕ) → 4 * e + from_bool (2 <? m) + from_bool (11 <? m) + from_bool (23 <? m) ≡ 4 * e + stage_of m
 passed e m = by (leb m 2) (leb m 11) (leb m 23) refl refl refl
   where
-    by : (p q r : Bool) → leb m 2 ≡ p → leb m 11 ≡ q → leb m 23 ≡ r → 4 * e + (if 2 <? m then 1 else 0) + (if 11 <? m then 1 else 0) + (if 23 <? m then 1 else 0) ≡ 4 * e + (if p then 0 else if q then 1 else if r then 2 else 3)
+    by : (p q r : Bool) → leb m 2 ≡ p → leb m 11 ≡ q → leb m 23 ≡ r → 4 * e + from_bool (2 <? m) + from_bool (11 <? m) + from_bool (23 <? m) ≡ 4 * e + (if p then 0 else if q then 1 else if r then 2 else 3)
     by true q r x y z =
         let h = leb-true m 2 x in
         rw (le-ltb 2 m h, le-ltb 11 m (omega arith), le-ltb 23 m (omega arith)) (omega arith)
@@ -44,5 +45,5 @@ aged n h = and_mask (12215739472165273600 / 2 ^ (4 * n)) 4 ∙ eqb-true _ _ (bel
 pub returns : goal.returns
 returns c =
     let a = c.args in
-    rw (c.one_if-third.ensures.0, c.one_if-twelfth.ensures.0, c.one_if-last.ensures.0, passed a.entry a.months, aged (4 * a.entry + stage_of a.months) (omega (arith, stage-le a.months)))
+    rw (c.from-third.ensures, c.from-twelfth.ensures, c.from-last.ensures, passed a.entry a.months, aged (4 * a.entry + stage_of a.months) (omega (arith, stage-le a.months)))
     (refl, age-le a.entry a.months c.requires)

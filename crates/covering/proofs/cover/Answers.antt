@@ -2,6 +2,7 @@ use Prim.Native.Nat.{◌/◌, ◌≤◌, ◌<◌}
 use lib.ListN.{length, get_or}
 use native.Mathlib.Omega.{arith}
 use Rattle.book.specs.Records.{K}
+use Rattle.header.specs.Sections.{section_counts}
 use Rattle.covering.proofs.Running.{running-start, running-step, running-end, own-inside, draws-inside, on-inside, halves-inside, rests-inside}
 use Rattle.covering.proofs.cover.Goals as goal
 use Rattle.covering.proofs.cover.Goals.{After-owner_at-own}
@@ -21,19 +22,16 @@ record At (c : After-owner_at-own) : Type 0 where
 at : (c : After-owner_at-own) → At c
 at c =
     let k = c.loop-place.invariant in
-    let h : c.loop-place.place ≤ K c.args.b.now = omega (arith, c.requires.2) in
+    let h : c.loop-place.place ≤ K c.args.b.now = omega (arith, (section_counts _ c.requires.1).2) in
     let e = c.owner_at-own.ensures in
     record {
       place = h;
-      own = omega (arith, own-inside k c.requires.0 c.requires.4 h e, c.requires.0.assets);
-      draws = draws-inside k c.requires.0 c.requires.4 h e;
-      on = omega (arith, on-inside k c.requires.0 c.requires.4 h e, c.requires.0.counterparties);
-      halves = halves-inside k c.requires.0 c.requires.4 h e;
-      rests = rests-inside k c.requires.0 c.requires.4 h e;
+      own = omega (arith, own-inside k c.requires.0 c.requires.3 h e, c.requires.0.assets);
+      draws = draws-inside k c.requires.0 c.requires.3 h e;
+      on = omega (arith, on-inside k c.requires.0 c.requires.3 h e, c.requires.0.counterparties);
+      halves = halves-inside k c.requires.0 c.requires.3 h e;
+      rests = rests-inside k c.requires.0 c.requires.3 h e;
     }
-
-pub offset_bounds-draws-from : goal.offset_bounds-draws-from
-offset_bounds-draws-from c = omega (arith, (at c).own)
 
 pub bounds-draws-from : goal.bounds-draws-from
 bounds-draws-from c = (at (goal.at.bounds-draws-from c).After-owner_at-own).draws
@@ -44,27 +42,11 @@ offset_bounds-rests-from c = omega (arith, (at (goal.at.offset_bounds-rests-from
 pub bounds-rests-from : goal.bounds-rests-from
 bounds-rests-from c = (at (goal.at.bounds-rests-from c).After-owner_at-own).rests
 
-pub offset_bounds-halves-on : goal.offset_bounds-halves-on
-offset_bounds-halves-on c = omega (arith, (at (goal.at.offset_bounds-halves-on c).After-owner_at-own).on)
-
 pub bounds-halves-on : goal.bounds-halves-on
-bounds-halves-on c = (at (goal.at.bounds-halves-on c).After-owner_at-own).halves
-
-pub offer_at-offer-requires : goal.offer_at-offer-requires
-offer_at-offer-requires c =
-    (c.requires.0, c.requires.1, c.loop-place.invariant.started, (at (goal.at.offer_at-offer-requires c).After-owner_at-own).place, omega arith, c.requires.3)
-
-pub overflow_sub-halves : goal.overflow_sub-halves
-overflow_sub-halves c = omega (arith, c.lesser-part.ensures, c.lesser-still.ensures)
-
-pub offset_bounds-halves-on-in-loop-place : goal.offset_bounds-halves-on-in-loop-place
-offset_bounds-halves-on-in-loop-place c = omega (arith, (at (goal.at.offset_bounds-halves-on-in-loop-place c).After-owner_at-own).on)
+bounds-halves-on c = rw c.from-on.ensures (at (goal.at.bounds-halves-on c).After-owner_at-own).halves
 
 pub bounds-halves-on-in-loop-place : goal.bounds-halves-on-in-loop-place
-bounds-halves-on-in-loop-place c = (at (goal.at.bounds-halves-on-in-loop-place c).After-owner_at-own).halves
-
-pub overflow_sub-rests : goal.overflow_sub-rests
-overflow_sub-rests c = omega (arith, c.lesser-part.ensures, c.lesser-still.ensures)
+bounds-halves-on-in-loop-place c = rw c.from-on.ensures (at (goal.at.bounds-halves-on-in-loop-place c).After-owner_at-own).halves
 
 pub offset_bounds-rests-from-in-loop-place : goal.offset_bounds-rests-from-in-loop-place
 offset_bounds-rests-from-in-loop-place c = omega (arith, (at (goal.at.offset_bounds-rests-from-in-loop-place c).After-owner_at-own).own)
@@ -75,7 +57,7 @@ bounds-rests-from-in-loop-place c = (at (goal.at.bounds-rests-from-in-loop-place
 pub loop-place-preserved : goal.loop-place-preserved
 loop-place-preserved c =
     let k = c.loop-place.invariant in
-    running-step k c.requires.0 c.requires.4 (at (goal.at.loop-place-preserved c).After-owner_at-own).place c.owner_at-own.ensures c.offer_at-offer.ensures c.lesser-still.ensures c.lesser-part.ensures
+    rw c.from-on.ensures (running-step k c.requires.0 c.requires.3 (at (goal.at.loop-place-preserved c).After-owner_at-own).place c.owner_at-own.ensures c.offer_at-offer.ensures (rw c.from-on.ensures at c.min-still.ensures) c.min-part.ensures)
 
 pub returns : goal.returns
-returns c = running-end c.loop-place.invariant c.requires.0 c.requires.4 (omega (arith, c.requires.2))
+returns c = running-end c.loop-place.invariant c.requires.0 c.requires.3 (omega (arith, (section_counts _ c.requires.1).2))

@@ -1,15 +1,6 @@
 use native.Mathlib.Omega.{arith}
-use Rattle.desks.proofs.Lines.{parts-start, parts-served, part-at, part_room, part_step}
+use Rattle.desks.proofs.Lines.{parts-served, part-at, part_room, part_step}
 use Rattle.desks.proofs.serve_parts.Goals as goal
-
-pub loop-place-init : goal.loop-place-init
-loop-place-init c = parts-start _ _ _ _ _ _ _ c.requires.along
-
-pub part_cell-cell-requires : goal.part_cell-cell-requires
-part_cell-cell-requires c = (c.requires.accepted, c.requires.section, omega (arith, c.loop-place.invariant.low, c.requires.low), omega (arith, c.requires.high), c.requires.rowed, c.requires.tiered)
-
-pub bounds-covered-place : goal.bounds-covered-place
-bounds-covered-place c = omega (arith, c.loop-place-test.true, c.requires.high, c.requires.covered-size)
 
 pub serve-requires : goal.serve-requires
 serve-requires c =

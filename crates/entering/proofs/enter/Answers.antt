@@ -11,21 +11,15 @@ with_treaty-sums-requires c =
     let e : reinsurance c.args.a ≡ true = sym c.is_reinsurance.ensures ∙ c.if-is_reinsurance.true in
     treaty-fits c.requires e c.stressed_of-stressed.ensures c.share_of-s.ensures
 
-pub bounds-halves-a : goal.bounds-halves-a
-bounds-halves-a c = c.requires.of-halves
-
 pub overflow_add-halves : goal.overflow_add-halves
 overflow_add-halves c =
     let e : reinsurance c.args.a ≡ true = sym c.is_reinsurance.ensures ∙ c.if-is_reinsurance.true in
-    omega (arith, net-fits c.requires e c.stressed_of-stressed.ensures c.share_of-s.ensures)
-
-pub bounds-halves-a-then-is_reinsurance : goal.bounds-halves-a-then-is_reinsurance
-bounds-halves-a-then-is_reinsurance c = c.requires.of-halves
+    rw c.from.ensures (omega (arith, net-fits c.requires e c.stressed_of-stressed.ensures c.share_of-s.ensures))
 
 pub returns-then-is_reinsurance : goal.returns-then-is_reinsurance
 returns-then-is_reinsurance c =
     let e : reinsurance c.args.a ≡ true = sym c.is_reinsurance.ensures ∙ c.if-is_reinsurance.true in
-    treaty-entered c.args.word c.args.terms c.settle.ensures e c.stressed_of-stressed.ensures c.share_of-s.ensures c.treaty_column.ensures.0 c.treaty_draws-on.ensures refl c.with_treaty-sums.ensures
+    rw c.from.ensures (treaty-entered c.args.word c.args.terms c.settle.ensures e c.stressed_of-stressed.ensures c.share_of-s.ensures c.treaty_column.ensures.0 c.treaty_draws-on.ensures refl c.with_treaty-sums.ensures)
 
 pub with_other-sums-requires : goal.with_other-sums-requires
 with_other-sums-requires c =

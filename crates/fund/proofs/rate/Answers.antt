@@ -29,7 +29,6 @@ returns c =
     let l = c.limits_of-l.ensures in
     let q = c.sum.ensures in
     record {
-      found = refl;
       limits = l.limits;
       ranking = c.rank.ensures.0 ∙ ap (λ (us : List ℕ). ranked (by_limit (by_tier us)) tiers) l.unrounded;
       vaf = l.vaf;

@@ -4,6 +4,3 @@ use Rattle.groups.proofs.find_tops.Given as goal
 
 abbrev pub invariant-loop-place : goal.invariant-loop-place
 invariant-loop-place l = Finding l.book l.c l.initial.tops l.tops l.place
-
-abbrev pub decreases-loop-place : goal.decreases-loop-place
-decreases-loop-place l = l.place

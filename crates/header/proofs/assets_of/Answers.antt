@@ -5,4 +5,4 @@ use Rattle.header.proofs.assets_of.Goals as goal
 
 pub returns : goal.returns
 unfolding assets_of
-returns c = rw (c.number.ensures, c.has_desks.ensures, c.assets_start.ensures, (header-counts _ c.header_at-h.ensures).0)
+returns c = rw (c.pick.ensures, c.has_desks.ensures, c.assets_start.ensures, (header-counts _ c.header_at-h.ensures).0)

@@ -2,18 +2,13 @@
 -- and those of them that have a line lead from there to the place behind the group's entries.
 use mathlib.Core.Path.{◌≡◌}
 use mathlib.Core.List.{map}
-use Prim.Native.Nat.{◌+◌, ◌*◌, ◌-◌, ◌≤◌}
+use Prim.Native.Nat.{◌+◌, ◌≤◌}
 use lib.ListN.{length, drop}
 use Rattle.words.specs.Words.{those}
-use Rattle.cascade.specs.Cascade.{tiers}
-use Rattle.rows.specs.Rows.{columns}
 use Rattle.lines.specs.Listing.{entry, all_ranks, shown_by, tried}
 use Rattle.lines.proofs.list_group.Given as goal
 
 abbrev pub invariant-loop-i : goal.invariant-loop-i
-invariant-loop-i l = (l.i ≤ tiers) × (l.place ≤ l.at + l.i) × (length l.list ≡ length l.initial.list) × (l.start ≡ columns * l.k)
-    × (tried (shown_by l.cells l.ranking) l.place (map (entry l.k) (drop l.i all_ranks)) l.list ≡ tried (shown_by l.cells l.ranking) l.at (map (entry l.k) all_ranks) l.initial.list)
-    × (l.place + length (those (shown_by l.cells l.ranking) (map (entry l.k) (drop l.i all_ranks))) ≡ l.at + length (those (shown_by l.cells l.ranking) (map (entry l.k) all_ranks)))
-
-abbrev pub decreases-loop-i : goal.decreases-loop-i
-decreases-loop-i l = tiers - l.i
+invariant-loop-i l = (l.place ≤ l.at + l.i) × (length l.list ≡ length l.initial.list)
+    × (tried (shown_by l.cells l.fn.ranking) l.place (map (entry l.k) (drop l.i all_ranks)) l.list ≡ tried (shown_by l.cells l.fn.ranking) l.at (map (entry l.k) all_ranks) l.initial.list)
+    × (l.place + length (those (shown_by l.cells l.fn.ranking) (map (entry l.k) (drop l.i all_ranks))) ≡ l.at + length (those (shown_by l.cells l.fn.ranking) (map (entry l.k) all_ranks)))

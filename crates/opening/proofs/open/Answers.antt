@@ -1,17 +1,14 @@
 -- `open` meets its contract: the sections of the checks in order, then what is wanted.
+use Rattle.std.proofs.Common.{rules, ◌≡◌, Err}
 use mathlib.Core.Path.{sym, ◌∙◌}
-use Rattle.wanted.proofs.Refusing.{bad-schedule, bad-book}
+use Rattle.opening.proofs.Checking.{bad-first, passed}
 use Rattle.opening.proofs.open.Goals as goal
 
 pub accepted-requires : goal.accepted-requires
-accepted-requires c = record { of-schedule = sym c.check-rates.ensures ∙ c.in-Fine.is; of-book = sym c.check-records.ensures ∙ c.in-Fine-records.is }
+accepted-requires g c = passed c.args.schedule.now c.args.book.now (sym c.check.ensures ∙ c.in_ok-check.was)
 
-pub returns-in-Bad : goal.returns-in-Bad
-returns-in-Bad c =
+pub returns-in_err-check : goal.returns-in_err-check
+returns-in_err-check g c =
     let a = c.args in
-    bad-schedule a.schedule.now a.book.now a.asked.now a.lent.now a.wanted (sym c.check-rates.ensures ∙ c.in-Bad.is)
-
-pub returns-in-Bad-records : goal.returns-in-Bad-records
-returns-in-Bad-records c =
-    let a = c.args in
-    bad-book a.schedule.now a.book.now a.asked.now a.lent.now a.wanted (sym c.check-rates.ensures ∙ c.in-Fine.is) (sym c.check-records.ensures ∙ c.in-Bad-records.is)
+    let e : c.from_residual.result ≡ Err _ = search rules in
+    rw e (g.met.W.Wanted.refused a.wanted a.schedule.now a.book.now a.lent.now _ (bad-first a.schedule.now a.book.now (sym c.check.ensures ∙ c.in_err-check.was)))

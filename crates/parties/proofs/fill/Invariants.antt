@@ -1,10 +1,6 @@
 -- `fill`: the topmost parents by `find_tops`, then each turn fills one place of each other table.
-use Prim.Native.Nat.{◌+◌, ◌-◌}
 use Rattle.parties.proofs.Filling.{Filling}
 use Rattle.parties.proofs.fill.Given as goal
 
 abbrev pub invariant-loop-place : goal.invariant-loop-place
 invariant-loop-place l = Filling l.b l.c l.initial.words l.initial.terms l.initial.rows l.initial.heads l.words l.terms l.rows l.heads l.groups l.place
-
-abbrev pub decreases-loop-place : goal.decreases-loop-place
-decreases-loop-place l = l.c + 1 - l.place

@@ -8,9 +8,8 @@ post_parts-requires c =
     record {
       accepted = c.requires.accepted;
       section = c.requires.section;
-      count = c.requires.mitigants;
       rowed = c.requires.rowed;
-      covered-size = omega (arith, c.requires.mitigants, c.requires.tabled.covered-size);
+      covered-size = c.requires.tabled.covered-size;
       cells-size = omega (arith, c.requires.count, c.requires.zeros.size);
       room = parts-room c.requires.accepted c.requires.tabled c.requires.zeros;
     }
@@ -20,9 +19,9 @@ post_rests-requires c =
     let p = c.post_parts.ensures in
     record {
       accepted = c.requires.accepted;
-      count = c.requires.assets;
+      section = c.requires.section;
       placed = c.requires.placed;
-      rests-size = omega (arith, c.requires.assets, c.requires.tabled.rests-size);
+      rests-size = c.requires.tabled.rests-size;
       cells-size = omega (arith, c.requires.count, c.requires.zeros.size, p.size);
       room = rests-room c.requires.accepted c.requires.tabled c.requires.zeros p;
     }

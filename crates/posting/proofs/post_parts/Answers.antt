@@ -2,19 +2,14 @@ use Prim.Native.Nat.{◌+◌, ◌*◌, ◌≤◌, ◌<◌, ◌^◌}
 use lib.ListN.{get_or}
 use native.Mathlib.Omega.{arith}
 use Rattle.book.specs.Records.{K}
+use Rattle.header.specs.Sections.{section_counts}
 use Rattle.rows.specs.Rows.{most_groups, columns}
-use Rattle.posting.proofs.Posting.{parts-start, parts-end, part_small, part-few, part_room, part_step}
+use Rattle.posting.proofs.Posting.{parts-end, part_small, part-few, part_room, part_step}
 use Rattle.posting.proofs.post_parts.Goals as goal
 use Rattle.posting.proofs.post_parts.Goals.{After-cell_at-cell}
 
-pub loop-place-init : goal.loop-place-init
-loop-place-init c = parts-start _ _ _
-
-pub cell_at-cell-requires : goal.cell_at-cell-requires
-cell_at-cell-requires c = (c.requires.accepted, c.requires.section, omega arith, omega arith, c.requires.rowed)
-
 on : (d : After-cell_at-cell) → d.loop-place.place ≤ K d.args.b.now
-on d = omega arith
+on d = omega (arith, (section_counts _ d.requires.section).2)
 
 few : (d : After-cell_at-cell) → d.cell_at-cell.result < columns * most_groups
 few d = part-few d.loop-place.invariant d.requires.accepted (on d) d.requires.cells-size (d.cell_at-cell.ensures _)
@@ -38,4 +33,4 @@ pub loop-place-preserved : goal.loop-place-preserved
 loop-place-preserved c = part_step c.loop-place.invariant c.requires.accepted (on (goal.at.loop-place-preserved c).After-cell_at-cell) c.requires.cells-size (c.cell_at-cell.ensures _)
 
 pub returns : goal.returns
-returns c = parts-end c.loop-place.invariant (omega arith)
+returns c = parts-end c.loop-place.invariant (omega (arith, (section_counts _ c.requires.section).2))

@@ -1,11 +1,6 @@
 -- `posting::post_rests` meets its contract. The loop's invariant: the cells, with what is left of the assets still to come, have the sums of all.
-use Prim.Native.Nat.{◌+◌, ◌-◌}
-use Rattle.book.specs.Records.{N}
 use Rattle.posting.proofs.Posting.{OnRests}
 use Rattle.posting.proofs.post_rests.Given as goal
 
 abbrev pub invariant-loop-place : goal.invariant-loop-place
 invariant-loop-place l = OnRests l.b l.rests l.initial.cells l.cells l.place
-
-abbrev pub decreases-loop-place : goal.decreases-loop-place
-decreases-loop-place l = N l.b + 1 - l.place

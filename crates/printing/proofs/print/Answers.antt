@@ -9,24 +9,24 @@ use Rattle.printing.proofs.print.Goals as goal
 
 pub put_report-requires : goal.put_report-requires
 put_report-requires c =
-    let held = rw c.in-Written.is at c.answer-answer.ensures in
+    let held = rw c.in-Ok.is at c.answer.ensures in
     let whole = held.cuts.whole in
-    let size : length c.answer-answer.new.report ≡ buffer_size = search rules in
+    let size : length c.answer.new.report ≡ buffer_size = search rules in
     record {
       report_in_bounds = whole;
       line_room_in_bounds = omega arith;
     }
 
-pub returns-in-Written : goal.returns-in-Written
-returns-in-Written c =
-    let held = rw c.in-Written.is at c.answer-answer.ensures in record {
-      printed = promised c.put_report.ensures.written (report-printed _ _ c.large_buffer-report.result c.answer-answer.new.report (sym c.large_buffer-report.ensures) _ held);
+pub returns-in-Ok : goal.returns-in-Ok
+returns-in-Ok c =
+    let held = rw c.in-Ok.is at c.answer.ensures in record {
+      printed = promised c.put_report.ensures.written (report-printed _ _ c.large_buffer-report.result c.answer.new.report (sym c.large_buffer-report.ensures) _ held);
       prefix_len = counts _ _ c.put_report.ensures.upper_bound;
     }
 
-pub returns-in-Refused : goal.returns-in-Refused
-returns-in-Refused c =
-    let held = rw c.in-Refused.is at c.answer-answer.ensures in record {
-      printed = promised c.put_refusal.ensures.written (refusal-printed _ _ c.large_buffer-report.result c.answer-answer.new.report (sym c.large_buffer-report.ensures) _ held);
+pub returns-in-Err : goal.returns-in-Err
+returns-in-Err c =
+    let held = rw c.in-Err.is at c.answer.ensures in record {
+      printed = promised c.put_refusal.ensures.written (refusal-printed _ _ c.large_buffer-report.result c.answer.new.report (sym c.large_buffer-report.ensures) _ held);
       prefix_len = counts _ _ c.put_refusal.ensures.upper_bound;
     }

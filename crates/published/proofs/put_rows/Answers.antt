@@ -50,9 +50,3 @@ put_row-requires c = record { row_fits = rows_fit c.loop-n.n; row_size_in_bounds
 pub loop-n-preserved : goal.loop-n-preserved
 loop-n-preserved c =
     (omega arith, omega arith, row-placed c.args.d.now c.loop-n.d c.put_row.new.d c.loop-n.n (omega arith) c.requires c.loop-n.invariant.2 c.put_row.ensures)
-
-pub returns : goal.returns
-returns c =
-    let l = c.loop-n in
-    let e : l.n ≡ row_count = omega arith in
-    l.invariant.2 ∙ ap (λ (k : ℕ). placed c.args.d.now head_size (each_of row_bytes (take k rows))) e

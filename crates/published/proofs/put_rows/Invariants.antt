@@ -1,7 +1,7 @@
 -- `published::put_rows` meets its contract: after n turns the first n rows stand.
 use mathlib.Core.List.{List}
 use mathlib.Core.Path.{◌≡◌}
-use Prim.Native.Nat.{◌-◌, ◌≤◌}
+use Prim.Native.Nat.{◌≤◌}
 use lib.ListN.{length, take}
 use Rattle.words.specs.Words.{each_of}
 use Rattle.wire.specs.Bytes.{placed}
@@ -14,6 +14,3 @@ rows = rows_of published
 
 abbrev pub invariant-loop-n : goal.invariant-loop-n
 invariant-loop-n l = (l.n ≤ row_count) × (length l.d ≡ length l.initial.d) × (l.d ≡ placed l.initial.d head_size (each_of row_bytes (take l.n rows)))
-
-abbrev pub decreases-loop-n : goal.decreases-loop-n
-decreases-loop-n l = row_count - l.n

@@ -13,55 +13,21 @@ use Rattle.questions.specs.Tables.{answer_at, answers_at}
 use Rattle.questions.proofs.Written.{counted-long, counted-at}
 use Rattle.questions.proofs.put_answers.Goals as goal
 
-pub tiers-tiers-requires : goal.tiers-tiers-requires
-tiers-tiers-requires c = search rules
-
 pub loop-k-init : goal.loop-k-init
 loop-k-init c =
     let a = c.args in
-    (omega arith, refl, λ q. amounts-none a.answers.now (answers_at q.order a.limits a.words.now a.rows.now a.cells.now a.questions.now a.n) 0 (omega arith))
-
-pub overflow_mul-k : goal.overflow_mul-k
-overflow_mul-k c = record { fits = omega arith }
-
-pub u16_at-place-requires : goal.u16_at-place-requires
-u16_at-place-requires c = omega arith
-
-pub overflow_mul-kind : goal.overflow_mul-kind
-overflow_mul-kind c = record { fits = omega arith }
-
-pub overflow_add-kind : goal.overflow_add-kind
-overflow_add-kind c = record { fits = omega arith }
-
-pub bounds-questions-k : goal.bounds-questions-k
-bounds-questions-k c = omega arith
-
-pub slice_bounds-answer-end : goal.slice_bounds-answer-end
-slice_bounds-answer-end c = search rules
+    (refl, λ q. amounts-none a.answers.now (answers_at q.order a.limits a.words.now a.rows.now a.cells.now a.questions.now a.n) 0 (omega arith))
 
 pub answer-amount-requires : goal.answer-amount-requires
 answer-amount-requires c =
     let p = c.requires in
     (rw c.u16_at-place.ensures (p.each c.loop-k.k (omega arith)), c.tiers-tiers.ensures)
 
-pub overflow_mul-k-in-loop-k : goal.overflow_mul-k-in-loop-k
-overflow_mul-k-in-loop-k c = record { fits = omega arith }
-
-pub put_u64-requires : goal.put_u64-requires
-put_u64-requires c = omega (arith, c.loop-k.invariant.1)
-
-pub overflow_add-k : goal.overflow_add-k
-overflow_add-k c = record { fits = omega arith }
-
-pub loop-k-smaller : goal.loop-k-smaller
-loop-k-smaller c = omega arith
-
 pub loop-k-preserved : goal.loop-k-preserved
 loop-k-preserved c =
     let a = c.args in
     let l = c.loop-k in
     let p : 0 + 8 * l.k ≡ 8 * l.k = omega arith in (
-      omega arith,
       search rules,
       λ q.
           let f : ℕ → ℕ = λ k. answer_at q.order a.limits a.words.now a.rows.now a.cells.now (place_at a.questions.now k) (kind_at a.questions.now k) in
@@ -69,7 +35,7 @@ loop-k-preserved c =
           let long = counted-long f a.n in
           let e : c.answer-amount.result ≡ get_or xs l.k 0 =
           rw c.u16_at-place.ensures at (c.answer-amount.ensures q) ∙ sym (counted-at f a.n l.k (omega arith)) in
-          amounts-placed a.answers.now xs 0 {i = l.k} (omega (arith, long)) (omega (arith, long)) (l.invariant.2 q) (rw (e, ← p) at c.put_u64.ensures),
+          amounts-placed a.answers.now xs 0 {i = l.k} (omega (arith, long)) (omega (arith, long)) (l.invariant.1 q) (rw (e, ← p) at c.put_u64.ensures),
     )
 
 pub returns : goal.returns
@@ -78,4 +44,4 @@ returns c q =
     let l = c.loop-k in
     let f : ℕ → ℕ = λ k. answer_at q.order a.limits a.words.now a.rows.now a.cells.now (place_at a.questions.now k) (kind_at a.questions.now k) in
     let xs = answers_at q.order a.limits a.words.now a.rows.now a.cells.now a.questions.now a.n in
-    l.invariant.2 q ∙ ap (λ (ys : List ℕ). placed a.answers.now 0 (amounts_bytes ys)) (take_all l.k xs (omega (arith, counted-long f a.n)))
+    l.invariant.1 q ∙ ap (λ (ys : List ℕ). placed a.answers.now 0 (amounts_bytes ys)) (take_all l.k xs (omega (arith, counted-long f a.n)))

@@ -1,20 +1,27 @@
-use mathlib.Core.Path.{sym, ◌∙◌}
+-- `counterparties_check`: what the search over the places found.
+use Prim.Native.Nat.{◌+◌, ◌≤◌}
 use native.Mathlib.Omega.{arith}
-use Rattle.words.specs.Choice.{not-true, not-false}
-use Rattle.refusal.specs.Search.{search-starts, search-on, search-finds, search-ends}
-use Rattle.book.specs.Check.{counterparties_check}
+use borrow.Author.Tests.{tests}
+use Rattle.std.proofs.Common.{refl, ap, rules}
+use Rattle.refusal.specs.declared.Refusal.TheVariants.{Counterparty}
+use Rattle.refusal.specs.Search.{searched}
+use Rattle.book.specs.Check.{good_counterparty, counterparties_check}
 use Rattle.records.proofs.counterparties_check.Goals as goal
 
-pub loop-passed-init : goal.loop-passed-init
-loop-passed-init c = search-starts _ _ _
+pub overflow_cast-result : goal.overflow_cast-result
+overflow_cast-result c =
+    let found = searched Counterparty (good_counterparty c.args.b.now) _ _ _ _ c.find.result c.find.ensures.ran (λ x q k. search (rules, tests)) (λ x q k. search (rules, tests)) refl (ap (λ k. k + 1) c.requires.1) in
+    let m : c.in-Some.place ≤ _ = (rw c.in-Some.is at found).0 in
+    omega arith
 
-pub returns-then-not-good_counterparty : goal.returns-then-not-good_counterparty
+pub returns-in-Some : goal.returns-in-Some
 unfolding counterparties_check
-returns-then-not-good_counterparty c = search-finds c.loop-passed.invariant (omega arith) (sym c.good_counterparty.ensures ∙ not-true _ c.if-not-good_counterparty.true-raw)
+returns-in-Some c =
+    let found = searched Counterparty (good_counterparty c.args.b.now) _ _ _ _ c.find.result c.find.ensures.ran (λ x q k. search (rules, tests)) (λ x q k. search (rules, tests)) refl (ap (λ k. k + 1) c.requires.1) in
+    (rw c.in-Some.is at found).1
 
-pub loop-passed-preserved : goal.loop-passed-preserved
-loop-passed-preserved c = search-on c.loop-passed.invariant (omega arith) (sym c.good_counterparty.ensures ∙ not-false _ c.if-not-good_counterparty.false-raw)
-
-pub returns : goal.returns
+pub returns-in-None : goal.returns-in-None
 unfolding counterparties_check
-returns c = search-ends c.loop-passed.invariant (omega arith)
+returns-in-None c =
+    let found = searched Counterparty (good_counterparty c.args.b.now) _ _ _ _ c.find.result c.find.ensures.ran (λ x q k. search (rules, tests)) (λ x q k. search (rules, tests)) refl (ap (λ k. k + 1) c.requires.1) in
+    rw c.in-None.is at found

@@ -1,4 +1,4 @@
-use mathlib.Core.Path.{ap}
+use mathlib.Core.Path.{ap, ◌∙◌}
 use native.Mathlib.Omega.{arith}
 use Rattle.book.specs.declared.Asset.{Asset}
 use Rattle.records.proofs.Adding.{adding-starts, adding-on, adding-ends}
@@ -7,11 +7,8 @@ use Rattle.records.proofs.counts_add.Goals as goal
 pub loop-place-init : goal.loop-place-init
 loop-place-init c = adding-starts _
 
-pub asset_at-a-requires : goal.asset_at-a-requires
-asset_at-a-requires c = (c.requires.2, omega arith, omega arith, omega arith)
-
 pub loop-place-preserved : goal.loop-place-preserved
-loop-place-preserved c = adding-on c.loop-place.invariant (omega arith) (ap (λ (a : Asset). a.count) c.asset_at-a.ensures) (omega arith)
+loop-place-preserved c = adding-on c.loop-place.invariant (omega arith) (c.from-sum.ensures ∙ ap (λ (a : Asset). a.count) c.asset_at.ensures) (omega arith)
 
 pub returns : goal.returns
 returns c = adding-ends c.loop-place.invariant (omega arith)

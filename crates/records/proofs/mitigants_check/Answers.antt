@@ -1,30 +1,28 @@
-use mathlib.Core.Path.{◌≡◌, sym, ap₂, ◌∙◌}
-use Prim.Native.Nat.{◌+◌}
+-- `mitigants_check`: what the search over the places found.
+use Prim.Native.Nat.{◌+◌, ◌≤◌}
 use native.Mathlib.Omega.{arith}
-use Rattle.words.specs.Choice.{not-true, not-false}
-use Rattle.refusal.specs.Search.{search-starts, search-on, search-finds, search-ends}
+use borrow.Author.Tests.{tests}
+use Rattle.std.proofs.Common.{refl, ap, rules}
+use Rattle.refusal.specs.declared.Refusal.TheVariants.{Mitigant}
+use Rattle.refusal.specs.Search.{searched}
 use Rattle.book.specs.Records.{C, mitigant_at}
-use Rattle.book.specs.Check.{mitigants_check, good_mitigant}
+use Rattle.book.specs.Check.{good_mitigant, mitigants_check}
 use Rattle.records.proofs.mitigants_check.Goals as goal
-use Rattle.records.proofs.mitigants_check.Goals.{After-good_mitigant}
 
-pub loop-passed-init : goal.loop-passed-init
-loop-passed-init c = search-starts _ _ _
+pub overflow_cast-result : goal.overflow_cast-result
+overflow_cast-result c =
+    let found = searched Mitigant (λ p. good_mitigant (C c.args.b.now) (mitigant_at c.args.b.now p)) _ _ _ _ c.find.result c.find.ensures.ran (λ x q k. search (rules, tests)) (λ x q k. search (rules, tests)) refl (ap (λ k. k + 1) c.requires.2) in
+    let m : c.in-Some.place ≤ _ = (rw c.in-Some.is at found).0 in
+    omega arith
 
-pub mitigant_at-requires : goal.mitigant_at-requires
-mitigant_at-requires c = (c.requires.3, omega arith, omega arith, omega arith)
-
-tested : (c : After-good_mitigant)
-    → c.good_mitigant.result ≡ good_mitigant (C c.args.b.now) (mitigant_at c.args.b.now (c.loop-passed.passed + 1))
-tested c = c.good_mitigant.ensures ∙ ap₂ good_mitigant c.requires.1 c.mitigant_at.ensures
-
-pub returns-then-not-good_mitigant : goal.returns-then-not-good_mitigant
+pub returns-in-Some : goal.returns-in-Some
 unfolding mitigants_check
-returns-then-not-good_mitigant c = search-finds c.loop-passed.invariant (omega arith) (sym (tested (goal.at.returns-then-not-good_mitigant c).After-good_mitigant) ∙ not-true _ c.if-not-good_mitigant.true-raw)
+returns-in-Some c =
+    let found = searched Mitigant (λ p. good_mitigant (C c.args.b.now) (mitigant_at c.args.b.now p)) _ _ _ _ c.find.result c.find.ensures.ran (λ x q k. search (rules, tests)) (λ x q k. search (rules, tests)) refl (ap (λ k. k + 1) c.requires.2) in
+    (rw c.in-Some.is at found).1
 
-pub loop-passed-preserved : goal.loop-passed-preserved
-loop-passed-preserved c = search-on c.loop-passed.invariant (omega arith) (sym (tested (goal.at.loop-passed-preserved c).After-good_mitigant) ∙ not-false _ c.if-not-good_mitigant.false-raw)
-
-pub returns : goal.returns
+pub returns-in-None : goal.returns-in-None
 unfolding mitigants_check
-returns c = search-ends c.loop-passed.invariant (omega arith)
+returns-in-None c =
+    let found = searched Mitigant (λ p. good_mitigant (C c.args.b.now) (mitigant_at c.args.b.now p)) _ _ _ _ c.find.result c.find.ensures.ran (λ x q k. search (rules, tests)) (λ x q k. search (rules, tests)) refl (ap (λ k. k + 1) c.requires.2) in
+    rw c.in-None.is at found

@@ -1,30 +1,28 @@
-use mathlib.Core.Path.{◌≡◌, sym, ap₂, ◌∙◌}
-use Prim.Native.Nat.{◌+◌}
+-- `specialist_check`: what the search over the places found.
+use Prim.Native.Nat.{◌+◌, ◌≤◌}
 use native.Mathlib.Omega.{arith}
-use Rattle.words.specs.Choice.{not-true, not-false}
-use Rattle.refusal.specs.Search.{search-starts, search-on, search-finds, search-ends}
+use borrow.Author.Tests.{tests}
+use Rattle.std.proofs.Common.{refl, ap, rules}
+use Rattle.refusal.specs.declared.Refusal.TheVariants.{SpecialistEntry}
+use Rattle.refusal.specs.Search.{searched}
 use Rattle.book.specs.Records.{specialist, asset_at}
 use Rattle.book.specs.Check.{entry_allowed, specialist_check}
 use Rattle.records.proofs.specialist_check.Goals as goal
-use Rattle.records.proofs.specialist_check.Goals.{After-entry_allowed}
 
-pub loop-passed-init : goal.loop-passed-init
-loop-passed-init c = search-starts _ _ _
+pub overflow_cast-result : goal.overflow_cast-result
+overflow_cast-result c =
+    let found = searched SpecialistEntry (λ p. entry_allowed (specialist c.args.b.now) (asset_at c.args.b.now p)) _ _ _ _ c.find.result c.find.ensures.ran (λ x q k. search (rules, tests)) (λ x q k. search (rules, tests)) refl (ap (λ k. k + 1) c.requires.2) in
+    let m : c.in-Some.place ≤ _ = (rw c.in-Some.is at found).0 in
+    omega arith
 
-pub asset_at-requires : goal.asset_at-requires
-asset_at-requires c = (c.requires.3, omega arith, omega arith, omega arith)
-
-tested : (c : After-entry_allowed)
-    → c.entry_allowed.result ≡ entry_allowed (specialist c.args.b.now) (asset_at c.args.b.now (c.loop-passed.passed + 1))
-tested c = c.entry_allowed.ensures ∙ ap₂ entry_allowed c.requires.1 c.asset_at.ensures
-
-pub returns-then-not-entry_allowed : goal.returns-then-not-entry_allowed
+pub returns-in-Some : goal.returns-in-Some
 unfolding specialist_check
-returns-then-not-entry_allowed c = search-finds c.loop-passed.invariant (omega arith) (sym (tested (goal.at.returns-then-not-entry_allowed c).After-entry_allowed) ∙ not-true _ c.if-not-entry_allowed.true-raw)
+returns-in-Some c =
+    let found = searched SpecialistEntry (λ p. entry_allowed (specialist c.args.b.now) (asset_at c.args.b.now p)) _ _ _ _ c.find.result c.find.ensures.ran (λ x q k. search (rules, tests)) (λ x q k. search (rules, tests)) refl (ap (λ k. k + 1) c.requires.2) in
+    (rw c.in-Some.is at found).1
 
-pub loop-passed-preserved : goal.loop-passed-preserved
-loop-passed-preserved c = search-on c.loop-passed.invariant (omega arith) (sym (tested (goal.at.loop-passed-preserved c).After-entry_allowed) ∙ not-false _ c.if-not-entry_allowed.false-raw)
-
-pub returns : goal.returns
+pub returns-in-None : goal.returns-in-None
 unfolding specialist_check
-returns c = search-ends c.loop-passed.invariant (omega arith)
+returns-in-None c =
+    let found = searched SpecialistEntry (λ p. entry_allowed (specialist c.args.b.now) (asset_at c.args.b.now p)) _ _ _ _ c.find.result c.find.ensures.ran (λ x q k. search (rules, tests)) (λ x q k. search (rules, tests)) refl (ap (λ k. k + 1) c.requires.2) in
+    rw c.in-None.is at found

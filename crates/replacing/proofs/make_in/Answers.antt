@@ -23,4 +23,4 @@ slice_bounds-replace-end-2 c = cut-long _ _ (put-within c.put-end.ensures)
 
 pub returns : goal.returns
 returns c =
-    replaced-as (put-taken c.put-end.ensures ∙ ap (λ (b : List ℕ). resulting b (movement_of c.args.change c.args.asset.now)) c.requires.0.stands.bytes) c.replace.ensures
+    replaced-as (put-taken c.put-end.ensures ∙ ap (λ (b : List ℕ). resulting b (movement_of c.args.change)) c.requires.0.stands.bytes) c.replace.ensures

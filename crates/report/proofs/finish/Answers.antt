@@ -20,24 +20,18 @@ overflow_add-size c =
     let p = c.requires in
     omega (arith, lines-few p.2 p.0.count p.0.exposed p.1 c.list_lines-n.ensures (taken p.0.passed))
 
-pub returns-then-report-size : goal.returns-then-report-size
-returns-then-report-size c =
+pub returns-then-report-size-clause-answered : goal.returns-then-report-size-clause-answered
+returns-then-report-size-clause-answered c =
     let p = c.requires in
     let n = size_is p.2 p.0.count p.0.exposed p.1 c.list_lines-n.ensures in
-    record {
-      tables = record { lines = c.list_lines-n.result; listed = c.list_lines-n.ensures };
-      answered = short c.args.schedule.now c.args.book.now c.args.report.now p.0.passed p.0.checked (omega (arith, n));
-    }
+    short c.args.schedule.now c.args.book.now c.args.report.now p.0.passed p.0.checked (omega (arith, n))
 
 pub put_report-requires : goal.put_report-requires
 put_report-requires c =
     let p = c.requires in
-    ready p.2 p.0.count p.0.exposed p.1 c.list_lines-n.ensures (taken p.0.passed) p.3 (omega (arith, c.sets-1.given)) (omega arith)
+    ready p.2 p.0.count p.0.exposed p.1 c.list_lines-n.ensures (taken p.0.passed) p.3 (omega arith) (omega arith)
 
-pub returns : goal.returns
-returns c =
+pub returns-clause-answered : goal.returns-clause-answered
+returns-clause-answered c =
     let p = c.requires in
-    record {
-      tables = record { lines = c.list_lines-n.result; listed = c.list_lines-n.ensures };
-      answered = answered p.2 p.0.count p.0.exposed p.1 c.list_lines-n.ensures p.0.passed p.0.checked (taken p.0.passed) p.3 (omega (arith, c.sets-1.given)) (omega (arith, c.if-report-size.false)) c.put_report.ensures;
-    }
+    answered p.2 p.0.count p.0.exposed p.1 c.list_lines-n.ensures p.0.passed p.0.checked (taken p.0.passed) p.3 (omega arith) (omega (arith, c.if-report-size.false)) c.put_report.ensures

@@ -10,7 +10,7 @@ use Rattle.report_text.proofs.put_report.Goals as goal
 
 pub loop-i-init : goal.loop-i-init
 unfolding lines_read each_of
-loop-i-init c = (omega arith, c.u16_at-lines.ensures, omega arith, record { bytes = refl; place = refl }, refl)
+loop-i-init c = (omega arith, record { bytes = refl; place = refl }, refl)
 
 pub loop-i-preserved : goal.loop-i-preserved
 loop-i-preserved c =
@@ -18,10 +18,8 @@ loop-i-preserved c =
     let report = c.args.report.now in
     let i = c.loop-i.i in (
       omega arith,
-      c.loop-i.invariant.1,
-      omega arith,
       rw (add-one, lines_next report i)
-          (then-written (each_of line_text (lines_read report i)) (line_text (line_at report i)) c.loop-i.invariant.3 (rw c.line_from.ensures at p.ensures.written) (omega arith)),
+          (then-written (each_of line_text (lines_read report i)) (line_text (line_at report i)) c.loop-i.invariant.1 (rw c.line_from.ensures at p.ensures.written) (omega arith)),
       omega arith,
     )
 
@@ -29,7 +27,7 @@ pub returns : goal.returns
 unfolding report_text
 returns c =
     let report = c.args.report.now in
-    let e : c.loop-i.i ≡ lines_in report = omega arith in record {
-      written = then-written (each_of line_text (lines_read report (lines_in report))) (charge_text (charge_in report)) (rw e at c.loop-i.invariant.3) (rw c.u64_at.ensures at c.put_charge.ensures.written) (omega arith);
+    let e : c.loop-i.i ≡ lines_in report = omega (arith, c.from-lines.ensures, c.u16_at.ensures) in record {
+      written = then-written (each_of line_text (lines_read report (lines_in report))) (charge_text (charge_in report)) (rw e at c.loop-i.invariant.1) (rw c.u64_at.ensures at c.put_charge.ensures.written) (omega arith);
       upper_bound = omega arith;
     }

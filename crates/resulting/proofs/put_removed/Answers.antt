@@ -6,28 +6,10 @@ use Rattle.book.specs.HeaderLaws.{header-counts}
 use Rattle.resulting.proofs.Putting.{bounds, removed-put}
 use Rattle.resulting.proofs.put_removed.Goals as goal
 
-pub find-s-requires : goal.find-s-requires
-find-s-requires c = (c.requires.0, c.requires.1, c.requires.2)
-
-pub put_slice-requires : goal.put_slice-requires
-put_slice-requires c =
-    let h = bounds c.args.b.now c.requires.0 c.args.place c.requires.1 c.requires.2 c.find-s.ensures in
-    (omega arith, omega (arith, h), omega (arith, h, c.requires.3))
-
-pub overflow_add-at : goal.overflow_add-at
-overflow_add-at c =
-    let h = bounds c.args.b.now c.requires.0 c.args.place c.requires.1 c.requires.2 c.find-s.ensures in
-    record { fits = omega (arith, h) }
-
 pub put_slice-requires-2 : goal.put_slice-requires-2
 put_slice-requires-2 c =
     let h = bounds c.args.b.now c.requires.0 c.args.place c.requires.1 c.requires.2 c.find-s.ensures in
     (h.own, omega (arith, h), omega (arith, h, c.requires.3, c.put_slice.auto.d))
-
-pub overflow_sub-first : goal.overflow_sub-first
-overflow_sub-first c =
-    let h = bounds c.args.b.now c.requires.0 c.args.place c.requires.1 c.requires.2 c.find-s.ensures in
-    omega (arith, h)
 
 pub put_slice-requires-3 : goal.put_slice-requires-3
 put_slice-requires-3 c =
@@ -43,25 +25,10 @@ overflow_sub-h-2 c =
     let h = bounds c.args.b.now c.requires.0 c.args.place c.requires.1 c.requires.2 c.find-s.ensures in
     omega (arith, h.count, (header-counts c.args.b.now c.header_at-h.ensures).2)
 
-pub put_counts-requires : goal.put_counts-requires
-put_counts-requires c =
-    let h = bounds c.args.b.now c.requires.0 c.args.place c.requires.1 c.requires.2 c.find-s.ensures in
-    omega (arith, h, c.requires.3, c.put_slice-3.auto.d, c.put_slice-2.auto.d, c.put_slice.auto.d)
-
-pub overflow_sub-result : goal.overflow_sub-result
-overflow_sub-result c =
-    let h = bounds c.args.b.now c.requires.0 c.args.place c.requires.1 c.requires.2 c.find-s.ensures in
-    omega (arith, h)
-
 pub overflow_sub-result-2 : goal.overflow_sub-result-2
 overflow_sub-result-2 c =
     let h = bounds c.args.b.now c.requires.0 c.args.place c.requires.1 c.requires.2 c.find-s.ensures in
     h.within
-
-pub overflow_add-result : goal.overflow_add-result
-overflow_add-result c =
-    let h = bounds c.args.b.now c.requires.0 c.args.place c.requires.1 c.requires.2 c.find-s.ensures in
-    record { fits = omega (arith, h) }
 
 pub returns : goal.returns
 returns c =

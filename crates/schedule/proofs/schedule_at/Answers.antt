@@ -25,8 +25,8 @@ pub returns : goal.returns
 returns c =
     schedule-by _
     (c.times-n.ensures.0 ∙ ap counts c.version.ensures)
-    c.u16_at.ensures
-    c.u16_at-2.ensures
+    (c.from.ensures ∙ c.u16_at.ensures)
+    (c.from-2.ensures ∙ c.u16_at-2.ensures)
     c.row_at.ensures
     c.row_at-2.ensures
     c.row_at-3.ensures

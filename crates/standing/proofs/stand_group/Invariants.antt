@@ -1,12 +1,7 @@
 -- `stand_group` meets its contract. The loop's invariant: the tiers that the ranking still has are to come, and the others are passed.
-use Prim.Native.Nat.{◌-◌, ◌≤◌}
 use lib.ListN.{drop}
-use Rattle.cascade.specs.Cascade.{tiers}
 use Rattle.standing.proofs.Tiers.{Walk}
 use Rattle.standing.proofs.stand_group.Given as goal
 
-abbrev pub invariant-loop-i : goal.invariant-loop-i
-invariant-loop-i l = (l.i ≤ tiers) × Walk l.k l.exposures l.limits l.ranking l.initial.cells l.cells l.standing (drop l.i l.ranking)
-
-abbrev pub decreases-loop-i : goal.decreases-loop-i
-decreases-loop-i l = tiers - l.i
+abbrev pub invariant-loop-t : goal.invariant-loop-t
+invariant-loop-t l = Walk l.k l.exposures l.limits l.t-items l.initial.cells l.cells l.standing (drop l.t-index l.t-items)

@@ -12,7 +12,7 @@ pub overflow_add-result : goal.overflow_add-result
 unfolding header_at
 overflow_add-result c =
     let t : c.header_at-h.result.total ≡ total c.args.b.now = ap (λ (h : Header). h.total) c.header_at-h.ensures in
-    omega (arith, c.difference.ensures, stressed-sum-le c.args.b.now c.requires.0, c.requires.2, c.requires.0.total, t)
+    omega (arith, c.saturating_sub.ensures, stressed-sum-le c.args.b.now c.requires.0, c.requires.2, c.requires.0.total, t)
 
 pub returns : goal.returns
 unfolding before_excluded book_of header_at

@@ -12,10 +12,10 @@ overflow_cast-head c = record { fits = omega (arith, lines-few c.requires.table)
 pub overflow_add-head : goal.overflow_add-head
 overflow_add-head c =
     let r = c.requires in
-    record { fits = omega (arith, c.put_list-group_excess.ensures.0, c.difference-over.ensures, r.a3, excess-few r.table) }
+    record { fits = omega (arith, c.put_list-group_excess.ensures.0, c.saturating_sub-over.ensures, r.a3, excess-few r.table) }
 
 pub returns : goal.returns
 returns c order places groups h t =
     let p = c.put_list-group_excess in
-    let o = c.difference-over in
+    let o = c.saturating_sub-over in
     report-put t h c.args.figures p.result o.result p.ensures.0 o.ensures c.args.buffer.now p.new.d c.put_head.new.d c.requires.fits p.ensures.1 c.put_head.ensures
