@@ -1,7 +1,7 @@
 #!/bin/sh
 # That a shared library is the archive and nothing else: it exports the functions that the header
 # declares, has the archive's functions and no other, each of the same size, and takes nothing from
-# outside but what the archive takes.
+# outside but what the archive takes, which is C's memset alone.
 #
 #     tests/shared.sh SHARED ARCHIVE HEADER
 set -eu
@@ -33,6 +33,10 @@ same "the archive's functions, and those of the shared library" archived linked
 nm -u "$archive" | awk 'NF == 2 {print $2}' | sort >"$out/archive_takes"
 nm -D -u "$shared" | awk '{sub("@.*", "", $2); print $2}' | sort >"$out/shared_takes"
 same "what the archive takes from outside, and what the shared library takes" archive_takes shared_takes
+if grep -vx memset "$out/archive_takes" >&2; then
+    echo "shared: the archive takes these names from outside beside memset" >&2
+    exit 1
+fi
 
 soname=$(basename "$shared")
 readelf -d "$shared" >"$out/dynamic"

@@ -31,11 +31,10 @@ pub struct Fund {
     pub figures: Figures,
 }
 
-// A fund that 14 and 15 let pass, and its tables: by counterparty, by group, by asset and by mitigant.
+// The tables of a fund that 14 and 15 let pass: by counterparty, by group, by asset and by mitigant.
 #[derive(Drop)]
 pub struct Opened<'a> {
     pub groups: usize,
-    pub fund: Fund,
     pub words: &'a [u64],
     pub rows: &'a [u16],
     pub heads: &'a [u16],

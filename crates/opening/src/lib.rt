@@ -10,7 +10,7 @@ ghost use Rattle.fund.specs.Fund.{Passed};
 ghost use Rattle.opening.specs.Tables.{RoomFor, RowsFor, Prepared};
 
 use cascade::TIERS;
-use fund::Opened;
+use fund::{Fund, Opened};
 use refusal::Refusal;
 use rows::COLUMNS;
 use wanted::Wanted;
@@ -86,7 +86,8 @@ struct Tables<
     starts: [u16; STARTS],
 }
 
-// Refusals 14 and 15, or what is wanted, with a row of cells for each of up to GROUPS groups.
+// Refusals 14 and 15, or what is wanted, with a row of cells for each of up to GROUPS groups. The fund is put together field by field, each of at most 128
+// bytes: by `?` its 304 would be moved whole, by a call of C's memcpy, which the archive for C would need from outside.
 fn answer<
     W: Wanted,
     const PARTIES: usize,
@@ -110,7 +111,7 @@ fn answer<
     let mut cells = [0u64; CELLS];
     let mut sets = [0u16; GROUPS];
     let mut list = [0u16; LINES];
-    let fund = making::make(
+    let found = making::make(
         schedule,
         book,
         groups,
@@ -124,21 +125,33 @@ fn answer<
         &mut t.places,
         &mut t.covered,
         &mut cells,
-    )?;
-    let made = Opened {
-        groups,
-        fund,
-        words: &t.words,
-        rows: &t.rows,
-        heads: &t.heads,
-        rests: &t.rests,
-        places: &t.places,
-        covered: &t.covered,
-        cells: &mut cells,
-        sets: &mut sets,
-        list: &mut list,
-    };
-    wanted.finish(schedule, book, made, lent)
+    );
+    match &found {
+        Err(why) => Err(*why),
+        Ok(rated) => {
+            let limits = rated.limits;
+            let ranking = rated.ranking;
+            let figures = rated.figures;
+            let fund = Fund {
+                limits,
+                ranking,
+                figures,
+            };
+            let made = Opened {
+                groups,
+                words: &t.words,
+                rows: &t.rows,
+                heads: &t.heads,
+                rests: &t.rests,
+                places: &t.places,
+                covered: &t.covered,
+                cells: &mut cells,
+                sets: &mut sets,
+                list: &mut list,
+            };
+            wanted.finish(schedule, book, fund, made, lent)
+        }
+    }
 }
 
 // In tables of these sizes. Not put into its caller by the compiler: every call would then touch the stack of the largest tables first.

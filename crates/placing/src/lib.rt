@@ -4,12 +4,15 @@
 ghost use Rattle.std.specs.Prelude.{◌≡◌, ◌∷◌, [], ◌++◌, ◌+◌, ◌≤◌, length, drop};
 ghost use Rattle.wire.specs.Bytes.{bytes16, bytes64, placed};
 
-// All bytes of s, put from the start on; every byte behind them stays.
+// All bytes of s, put from the start on; every byte behind them stays. A loop, since the library's copy of so many bytes is a call of C's memmove, which
+// the archive for C would need from outside.
 pub fn put_all(d: &mut [u8], s: &[u8])
     requires { length s.now ≤ length d.old }
     ensures { d.new ≡ s.now ++ drop (length s.now) d.old }
 {
-    d[..s.len()].copy_from_slice(s);
+    for i in 0..s.len() {
+        d[i] = s[i];
+    }
 }
 
 // A byte put at a place; every other byte stays.

@@ -16,7 +16,7 @@ fn put_slice(d: &mut [u8], at: usize, s: &[u8], from: usize, end: usize)
     requires { (from ≤ end) × (end ≤ length s.now) × (at + (end - from) ≤ length d.old) }
     ensures { d.new ≡ placed d.old at (slice s.now from (end - from)) }
 {
-    d[at..at + (end - from)].copy_from_slice(&s[from..end]);
+    placing::put_all(&mut d[at..], &s[from..end]);
 }
 
 // Other counts of assets and mitigants in a header; every other byte stays.
