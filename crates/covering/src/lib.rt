@@ -2,17 +2,15 @@
 #![tactic(auto)]
 
 ghost use Rattle.std.specs.Prelude.{◌≡◌, ◌≤◌, ◌<◌, max, length, get_or};
-ghost use Rattle.book.specs.Records.{K};
+ghost use Rattle.book.specs.Records.{K, mitigants_start};
 ghost use Rattle.book.specs.Accepted.{Accepted};
-ghost use Rattle.header.specs.Sections.{sections_of};
 ghost use Rattle.covering.specs.Pass.{Known, Offers, Coverable, Covers};
 
 use header::Sections;
 
 // What the mitigant at a place could cover: its value where it counts, else 0; `reinsured` is 1 for reinsurance and 0 for any other asset.
-#[tactic(auto, using(header::specs::Sections::section_counts, header::specs::Sections::section_mitigants))]
 fn offer_at(b: &[u8], sections: Sections, place: usize, reinsured: u64, terms: &[u64]) -> u64
-    requires { (Accepted b.now) × (sections ≡ sections_of b.now) × (0 < place) × (place ≤ K b.now) × (reinsured ≤ 1) × (Known b.now terms.now) }
+    requires { (Accepted b.now) × (sections.mitigants ≡ mitigants_start b.now) × (0 < place) × (place ≤ K b.now) × (reinsured ≤ 1) × (Known b.now terms.now) }
     ensures { Offers b.now place reinsured result }
 {
     let m = book::mitigant_at(b, sections.mitigants, place);
@@ -31,7 +29,6 @@ fn owner_at(starts: &[u16], place: usize, own: u64) -> u64
 }
 
 // Every mitigant in book order: what it covers, taken off what is left of its asset and off the half that its asset draws on.
-#[tactic(auto, using(header::specs::Sections::section_counts, header::specs::Sections::section_mitigants))]
 pub fn cover(
     b: &[u8],
     sections: Sections,
@@ -42,7 +39,7 @@ pub fn cover(
     rests: &mut [u64],
     covered: &mut [u64],
 )
-    requires { (Accepted b.now) × (sections ≡ sections_of b.now) × (Known b.now terms.now) × (Coverable b.now starts.now draws.now halves.old rests.old) × (K b.now < length covered.old) }
+    requires { (Accepted b.now) × (sections.mitigants ≡ mitigants_start b.now) × (sections.mitigant_count ≡ K b.now) × (Known b.now terms.now) × (Coverable b.now starts.now draws.now halves.old rests.old) × (K b.now < length covered.old) }
     ensures { Covers b.now covered.old halves.old rests.old covered.new halves.new rests.new }
 {
     let mut own = 0;

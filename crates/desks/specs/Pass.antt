@@ -9,10 +9,9 @@ use Rattle.rows.specs.Rows.{columns}
 use Rattle.bills.specs.Lines.{ExposureLine}
 use Rattle.bills.specs.Bills.{desk_count}
 use Rattle.bills.specs.Tables.{by_desk, still_after, desks_after}
-use Rattle.book.specs.Records.{C, N, K, counterparty_at, asset_at}
+use Rattle.book.specs.Records.{C, N, K, assets_of, mitigants_start, counterparty_at, asset_at}
 use Rattle.book.specs.Accepted.{Accepted}
 use Rattle.header.specs.declared.Sections.{Sections}
-use Rattle.header.specs.Sections.{sections_of}
 use Rattle.exposure.specs.Parts.{remainder}
 use Rattle.columns.specs.Column.{Tiered}
 use Rattle.parties.specs.Rows.{tops_to, row_of}
@@ -45,7 +44,7 @@ pub record Lined (b still desks : List ℕ) : Type 0 where
 
 -- a book, the mitigants from place `first` on and before `end`, of an asset of such a desk, and the tables:
 -- accepted         refusals 5 to 13 and 17 let the book pass
--- section          where its records stand, and how many there are
+-- section          its mitigants start at that byte
 -- low along high   the places are of the book
 -- desk-few         the desk is a byte
 -- rowed tiered     the counterparties' words and rows, and the tier of each column
@@ -54,7 +53,7 @@ pub record Lined (b still desks : List ℕ) : Type 0 where
 -- room             no desk's sum passes 64 bits behind these lines
 pub record PartsServable (b : List ℕ) (sections : Sections) (first end desk : ℕ) (words rows tiers covered still desks : List ℕ) : Type 0 where
   pub accepted : Accepted b
-  pub section : sections ≡ sections_of b
+  pub section : sections.mitigants ≡ mitigants_start b
   pub low : 0 < first
   pub along : first ≤ end
   pub high : end ≤ K b + 1
@@ -67,14 +66,16 @@ pub record PartsServable (b : List ℕ) (sections : Sections) (first end desk : 
 
 -- a book and its tables:
 -- accepted                  refusals 5 to 13 and 17 let the book pass
--- section                   where its records stand, and how many there are
+-- records section count     where its assets are, where its mitigants start, and how many assets it has
 -- rowed placed              the counterparties' words and rows, and where what is left of each asset is posted
 -- covered-size rests-size   a place for each mitigant and for each asset
 -- lined                     room for every line
 -- room                      no desk's sum passes 64 bits behind all lines
 pub record Servable (b : List ℕ) (sections : Sections) (words rows places covered rests still desks : List ℕ) : Type 0 where
   pub accepted : Accepted b
-  pub section : sections ≡ sections_of b
+  pub records : sections.assets ≡ assets_of b
+  pub section : sections.mitigants ≡ mitigants_start b
+  pub count : sections.asset_count ≡ N b
   pub rowed : Rowed b words rows
   pub placed : Placed b places
   pub covered-size : K b < length covered

@@ -4,9 +4,8 @@
 
 ghost use Rattle.std.specs.Prelude.{◌≡◌, ℕ, ◌+◌, ◌-◌, ◌≤◌, ◌<◌};
 ghost use Rattle.rows.specs.Rows.{columns};
-ghost use Rattle.book.specs.Records.{K, counterparty_at};
+ghost use Rattle.book.specs.Records.{K, mitigants_start, counterparty_at};
 ghost use Rattle.book.specs.Accepted.{Accepted};
-ghost use Rattle.header.specs.Sections.{sections_of};
 ghost use Rattle.columns.specs.Column.{tier_in, Tiered};
 ghost use Rattle.cells.specs.Cells.{part_at, Rowed};
 ghost use Rattle.desks.specs.BookLines.{exposure_line};
@@ -15,7 +14,6 @@ ghost use Rattle.desks.specs.Pass.{line_cell, PartsServable, PartsServed};
 use header::Sections;
 
 // The cell of the line of what a mitigant covers.
-#[tactic(auto, using(header::specs::Sections::section_counts, header::specs::Sections::section_mitigants))]
 fn part_cell(
     b: &[u8],
     sections: Sections,
@@ -24,7 +22,7 @@ fn part_cell(
     rows: &[u16],
     tiers: &[u16],
 ) -> usize
-    requires { (Accepted b.now) × (sections ≡ sections_of b.now) × (0 < place) × (place ≤ K b.now) × (Rowed b.now words.now rows.now) × (Tiered tiers.now) }
+    requires { (Accepted b.now) × (sections.mitigants ≡ mitigants_start b.now) × (0 < place) × (place ≤ K b.now) × (Rowed b.now words.now rows.now) × (Tiered tiers.now) }
     ensures { (desk amount : ℕ) → result ≡ line_cell b.now (exposure_line (counterparty_at b.now) desk (part_at b.now place amount)) }
 {
     let m = book::mitigant_at(b, sections.mitigants, place);

@@ -3,10 +3,9 @@
 #![tactic(auto)]
 
 ghost use Rattle.std.specs.Prelude.{◌≡◌, ◌+◌, ◌*◌, ◌≤◌, if◌then◌else◌};
-ghost use Rattle.book.specs.Records.{most_assets};
+ghost use Rattle.book.specs.Records.{most_assets, N, assets_of};
 ghost use Rattle.book.specs.Fields.{reinsurance};
 ghost use Rattle.book.specs.Accepted.{Accepted};
-ghost use Rattle.header.specs.Sections.{sections_of};
 ghost use Rattle.parties.specs.Rows.{Parties};
 ghost use Rattle.assets.specs.Assets.{AssetRoom, Valued};
 
@@ -23,7 +22,6 @@ fn mark_of(a: Asset, place: usize) -> u16
 }
 
 // Every asset in book order. What is left in `halves` are sums, not halved yet.
-#[tactic(auto, using(header::specs::Sections::section_counts, header::specs::Sections::section_assets))]
 pub fn fill(
     b: &[u8],
     sections: Sections,
@@ -36,7 +34,7 @@ pub fn fill(
     rests: &mut [u64],
     places: &mut [u16],
 ) -> Values
-    requires { (Accepted b.now) × (sections ≡ sections_of b.now) × (Parties b.now words.now terms.now rows.now) × (AssetRoom b.now starts.old draws.old halves.old rests.old places.old) }
+    requires { (Accepted b.now) × (sections.assets ≡ assets_of b.now) × (sections.asset_count ≡ N b.now) × (Parties b.now words.now terms.now rows.now) × (AssetRoom b.now starts.old draws.old halves.old rests.old places.old) }
     ensures { Valued b.now starts.old draws.old halves.old rests.old places.old starts.new draws.new halves.new rests.new places.new result }
 {
     let mut v = Values {

@@ -3,9 +3,8 @@
 #![tactic(auto)]
 
 ghost use Rattle.std.specs.Prelude.{[], ◌≡◌, ℕ, ◌≤◌, ◌<◌};
-ghost use Rattle.book.specs.Records.{N, K};
+ghost use Rattle.book.specs.Records.{N, K, mitigants_start};
 ghost use Rattle.book.specs.Accepted.{Accepted};
-ghost use Rattle.header.specs.Sections.{sections_of};
 ghost use Rattle.covering.specs.ByPlace.{parts_at, rests_at};
 ghost use Rattle.cells.specs.Adding.{Adding};
 ghost use Rattle.cells.specs.Cells.{cell_of, part_at, Rowed, Posted};
@@ -15,9 +14,8 @@ use cells::Sums;
 use header::Sections;
 
 // The cell of what a mitigant covers.
-#[tactic(auto, using(header::specs::Sections::section_counts, header::specs::Sections::section_mitigants))]
 fn cell_at(b: &[u8], sections: Sections, place: usize, words: &[u64], rows: &[u16]) -> usize
-    requires { (Accepted b.now) × (sections ≡ sections_of b.now) × (0 < place) × (place ≤ K b.now) × (Rowed b.now words.now rows.now) }
+    requires { (Accepted b.now) × (sections.mitigants ≡ mitigants_start b.now) × (0 < place) × (place ≤ K b.now) × (Rowed b.now words.now rows.now) }
     ensures { (amount : ℕ) → result ≡ cell_of b.now (part_at b.now place amount) }
 {
     let m = book::mitigant_at(b, sections.mitigants, place);
@@ -26,7 +24,6 @@ fn cell_at(b: &[u8], sections: Sections, place: usize, words: &[u64], rows: &[u1
 }
 
 // What the mitigants cover, each added to its cell.
-#[tactic(auto, using(header::specs::Sections::section_counts))]
 fn post_parts(
     b: &[u8],
     sections: Sections,
@@ -45,7 +42,6 @@ fn post_parts(
 }
 
 // What is left of the assets, each added to its cell. The book is named by the contract alone.
-#[tactic(auto, using(header::specs::Sections::section_counts))]
 fn post_rests(b: &[u8], sections: Sections, places: &[u16], rests: &[u64], cells: &mut [u64])
     requires { RestsPostable b.now sections places.now rests.now cells.old }
     ensures { Adding (cell_of b.now) cells.old (rests_at b.now rests.now 1 (N b.now)) cells.new [] }

@@ -7,7 +7,6 @@ ghost use Rattle.desks.specs.Pass.{Servable, Served};
 use header::Sections;
 
 // Every asset in book order.
-#[tactic(auto, using(header::specs::Sections::section_counts, header::specs::Sections::section_assets))]
 pub fn serve(
     b: &[u8],
     sections: Sections,

@@ -3,6 +3,7 @@ use mathlib.Core.Path.{ap}
 use Prim.Native.Nat.{ℕ, ◌<◌}
 use native.Mathlib.Omega.{arith}
 use lib.ListN.{length, get_or, length-replicate}
+use Rattle.header.specs.Sections.{section_counts, section_assets, section_mitigants}
 use Rattle.bills.specs.Bills.{desk_count}
 use Rattle.fund.proofs.Limits.{taken}
 use Rattle.billing.proofs.Standing.{standable}
@@ -26,9 +27,12 @@ byte d k = omega (arith, d.shared_slice_known-2-1.given k)
 pub serve-requires : goal.serve-requires
 serve-requires c =
     let t = c.requires.0 in
+    let s = c.sections_of-sections.ensures in
     record {
       accepted = taken t.rateable.passed;
-      section = c.sections_of-sections.ensures;
+      records = section_assets _ s;
+      section = section_mitigants _ s;
+      count = (section_counts _ s).1;
       rowed = t.rowed;
       placed = t.placed;
       covered-size = t.covered-size;

@@ -2,7 +2,6 @@ use Prim.Native.Nat.{◌/◌, ◌≤◌, ◌<◌}
 use lib.ListN.{length, get_or}
 use native.Mathlib.Omega.{arith}
 use Rattle.book.specs.Records.{K}
-use Rattle.header.specs.Sections.{section_counts}
 use Rattle.covering.proofs.Running.{running-start, running-step, running-end, own-inside, draws-inside, on-inside, halves-inside, rests-inside}
 use Rattle.covering.proofs.cover.Goals as goal
 use Rattle.covering.proofs.cover.Goals.{After-owner_at-own}
@@ -22,15 +21,15 @@ record At (c : After-owner_at-own) : Type 0 where
 at : (c : After-owner_at-own) → At c
 at c =
     let k = c.loop-place.invariant in
-    let h : c.loop-place.place ≤ K c.args.b.now = omega (arith, (section_counts _ c.requires.1).2) in
+    let h : c.loop-place.place ≤ K c.args.b.now = omega (arith, c.requires.2) in
     let e = c.owner_at-own.ensures in
     record {
       place = h;
-      own = omega (arith, own-inside k c.requires.0 c.requires.3 h e, c.requires.0.assets);
-      draws = draws-inside k c.requires.0 c.requires.3 h e;
-      on = omega (arith, on-inside k c.requires.0 c.requires.3 h e, c.requires.0.counterparties);
-      halves = halves-inside k c.requires.0 c.requires.3 h e;
-      rests = rests-inside k c.requires.0 c.requires.3 h e;
+      own = omega (arith, own-inside k c.requires.0 c.requires.4 h e, c.requires.0.assets);
+      draws = draws-inside k c.requires.0 c.requires.4 h e;
+      on = omega (arith, on-inside k c.requires.0 c.requires.4 h e, c.requires.0.counterparties);
+      halves = halves-inside k c.requires.0 c.requires.4 h e;
+      rests = rests-inside k c.requires.0 c.requires.4 h e;
     }
 
 pub bounds-draws-from : goal.bounds-draws-from
@@ -57,7 +56,7 @@ bounds-rests-from-in-loop-place c = (at (goal.at.bounds-rests-from-in-loop-place
 pub loop-place-preserved : goal.loop-place-preserved
 loop-place-preserved c =
     let k = c.loop-place.invariant in
-    rw c.from-on.ensures (running-step k c.requires.0 c.requires.3 (at (goal.at.loop-place-preserved c).After-owner_at-own).place c.owner_at-own.ensures c.offer_at-offer.ensures (rw c.from-on.ensures at c.min-still.ensures) c.min-part.ensures)
+    rw c.from-on.ensures (running-step k c.requires.0 c.requires.4 (at (goal.at.loop-place-preserved c).After-owner_at-own).place c.owner_at-own.ensures c.offer_at-offer.ensures (rw c.from-on.ensures at c.min-still.ensures) c.min-part.ensures)
 
 pub returns : goal.returns
-returns c = running-end c.loop-place.invariant c.requires.0 c.requires.3 (omega (arith, (section_counts _ c.requires.1).2))
+returns c = running-end c.loop-place.invariant c.requires.0 c.requires.4 (omega (arith, c.requires.2))

@@ -8,6 +8,7 @@ post_parts-requires c =
     record {
       accepted = c.requires.accepted;
       section = c.requires.section;
+      count = c.requires.mitigants;
       rowed = c.requires.rowed;
       covered-size = c.requires.tabled.covered-size;
       cells-size = omega (arith, c.requires.count, c.requires.zeros.size);
@@ -19,7 +20,7 @@ post_rests-requires c =
     let p = c.post_parts.ensures in
     record {
       accepted = c.requires.accepted;
-      section = c.requires.section;
+      count = c.requires.assets;
       placed = c.requires.placed;
       rests-size = c.requires.tabled.rests-size;
       cells-size = omega (arith, c.requires.count, c.requires.zeros.size, p.size);

@@ -2,14 +2,13 @@ use Prim.Native.Nat.{◌+◌, ◌*◌, ◌≤◌, ◌<◌, ◌^◌}
 use lib.ListN.{get_or}
 use native.Mathlib.Omega.{arith}
 use Rattle.book.specs.Records.{K}
-use Rattle.header.specs.Sections.{section_counts}
 use Rattle.rows.specs.Rows.{most_groups, columns}
 use Rattle.posting.proofs.Posting.{parts-end, part_small, part-few, part_room, part_step}
 use Rattle.posting.proofs.post_parts.Goals as goal
 use Rattle.posting.proofs.post_parts.Goals.{After-cell_at-cell}
 
 on : (d : After-cell_at-cell) → d.loop-place.place ≤ K d.args.b.now
-on d = omega (arith, (section_counts _ d.requires.section).2)
+on d = omega (arith, d.requires.count)
 
 few : (d : After-cell_at-cell) → d.cell_at-cell.result < columns * most_groups
 few d = part-few d.loop-place.invariant d.requires.accepted (on d) d.requires.cells-size (d.cell_at-cell.ensures _)
@@ -33,4 +32,4 @@ pub loop-place-preserved : goal.loop-place-preserved
 loop-place-preserved c = part_step c.loop-place.invariant c.requires.accepted (on (goal.at.loop-place-preserved c).After-cell_at-cell) c.requires.cells-size (c.cell_at-cell.ensures _)
 
 pub returns : goal.returns
-returns c = parts-end c.loop-place.invariant (omega (arith, (section_counts _ c.requires.section).2))
+returns c = parts-end c.loop-place.invariant (omega (arith, c.requires.count))

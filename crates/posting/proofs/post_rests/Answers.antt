@@ -4,14 +4,13 @@ use lib.ListN.{get_or}
 use Rattle.assets.specs.Assets.{rest_cell}
 use native.Mathlib.Omega.{arith}
 use Rattle.book.specs.Records.{N}
-use Rattle.header.specs.Sections.{section_counts}
 use Rattle.rows.specs.Rows.{most_groups, columns}
 use Rattle.posting.proofs.Posting.{rests-end, left-few, left-small, left-room, left_step}
 use Rattle.posting.proofs.post_rests.Goals as goal
 use Rattle.posting.proofs.post_rests.Goals.{After-from-cell}
 
 on : (d : After-from-cell) → d.loop-place.place ≤ N d.args.b.now
-on d = omega (arith, (section_counts _ d.requires.section).1)
+on d = omega (arith, d.requires.count)
 
 is : (d : After-from-cell) → d.from-cell.result ≡ rest_cell d.args.b.now d.loop-place.place
 is d = let o = d.loop-place.invariant in d.from-cell.ensures ∙ d.requires.placed.each _ o.low (on d)
@@ -35,4 +34,4 @@ pub loop-place-preserved : goal.loop-place-preserved
 loop-place-preserved c = left_step c.loop-place.invariant c.requires.accepted (on (goal.at.loop-place-preserved c).After-from-cell) c.requires.cells-size (is (goal.at.loop-place-preserved c).After-from-cell)
 
 pub returns : goal.returns
-returns c = rests-end c.loop-place.invariant (omega (arith, (section_counts _ c.requires.section).1))
+returns c = rests-end c.loop-place.invariant (omega (arith, c.requires.count))

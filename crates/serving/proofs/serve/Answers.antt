@@ -3,7 +3,6 @@ use Prim.Native.Nat.{ℕ, ◌≤◌, ◌<◌}
 use native.Mathlib.Omega.{arith}
 use lib.ListN.{get_or}
 use Rattle.book.specs.Records.{N, asset_at}
-use Rattle.header.specs.Sections.{section_counts}
 use Rattle.parties.specs.Rows.{row_of}
 use Rattle.desks.proofs.Lines.{rest-row, lines_start, lines-served, lined-still, end-few, own-desk, parts-room, behind-parts, rest_at, rest-room, rest-step}
 use Rattle.serving.proofs.serve.Goals as goal
@@ -14,7 +13,7 @@ loop-place-init c = lines_start _ _ _ _ _ c.requires.accepted
 
 -- the asset at the loop's place is there
 here : (d : In-loop-place) → d.loop-place.place ≤ N d.args.b.now
-here d = omega (arith, d.loop-place-test.true, (section_counts _ d.requires.section).1)
+here d = omega (arith, d.loop-place-test.true, d.requires.count)
 
 -- a book is bytes
 byte : (d : In-loop-place) (k : ℕ) → get_or d.args.b.now k 0 < 256
@@ -24,7 +23,7 @@ byte d k = omega (arith, d.shared_slice_known-1.given k)
 row_at : (a : After-from-who)
     → get_or a.args.rows.now a.from-who.result 0 ≡ row_of a.args.b.now (asset_at a.args.b.now a.loop-place.place).counterparty
 row_at a =
-    let f = a.requires.accepted.asset _ a.loop-place.invariant.low (omega (arith, (section_counts _ a.requires.section).1)) in
+    let f = a.requires.accepted.asset _ a.loop-place.invariant.low (omega (arith, a.requires.count)) in
     rw (a.from-who.ensures, a.asset_at-a.ensures) (a.requires.rowed.row _ f.low f.high)
 
 pub serve_parts-requires : goal.serve_parts-requires
@@ -71,4 +70,4 @@ loop-place-preserved c =
     rw (c.from.ensures, e) (rest-step o (here (goal.at.loop-place-preserved c).In-loop-place) refl c.requires.accepted (byte (goal.at.loop-place-preserved c).In-loop-place) c.requires.lined p (row_at (goal.at.loop-place-preserved c).After-from-who) q c.rest_cell-cell.ensures (rw (c.from-desk.ensures, e) at c.serve.ensures))
 
 pub returns : goal.returns
-returns c = lines-served c.loop-place.invariant (omega (arith, c.loop-place-test.false, (section_counts _ c.requires.section).1))
+returns c = lines-served c.loop-place.invariant (omega (arith, c.loop-place-test.false, c.requires.count))
