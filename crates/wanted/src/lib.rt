@@ -19,9 +19,6 @@ pub trait Wanted: Drop {
     // What is promised of a schedule's and a book's bytes, the lent ones before and after, and the answer.
     ghost promise: { Self → List ℕ → List ℕ → List ℕ → List ℕ → Answer → Type 0 };
 
-    // The checks behind 15, of a schedule's and a book's bytes and the lent ones.
-    ghost last: { Self → List ℕ → List ℕ → List ℕ → Checked };
-
     fn finish(
         self,
         schedule: &[u8],
@@ -35,9 +32,14 @@ pub trait Wanted: Drop {
 
     // What 1 to 15 and 17 refuse changes no byte.
     ghost refused: { (w : Self) → Unchanged (promise w) };
+}
 
-    // Nor does what the checks behind 15 refuse.
-    ghost all_refused: { (w : Self) → AllUnchanged (promise w) (last w) };
+// What the checks behind 15 refuse changes no byte either.
+pub trait Refuses: Wanted {
+    // These checks, of a schedule's and a book's bytes and the lent ones.
+    ghost last: { Self → List ℕ → List ℕ → List ℕ → Checked };
+
+    ghost all_refused: { (w : Self) → AllUnchanged (Self.promise w) (last w) };
 }
 
 // The report.
@@ -47,11 +49,7 @@ pub struct Report;
 impl Wanted for Report {
     ghost promise = { λ w schedule book before after r. Answered schedule book before after r };
 
-    ghost last = { λ w. report_last };
-
     ghost refused = { λ w. reported };
-
-    ghost all_refused = { λ w. all_reported };
 
     fn finish(
         self,
@@ -84,6 +82,12 @@ impl Wanted for Report {
     }
 }
 
+impl Refuses for Report {
+    ghost last = { λ w. report_last };
+
+    ghost all_refused = { λ w. all_reported };
+}
+
 // The desks' bills, at a rate in ten-thousandths.
 #[derive(Clone, Copy)]
 pub struct Bills {
@@ -93,11 +97,7 @@ pub struct Bills {
 impl Wanted for Bills {
     ghost promise = { λ w schedule book before after r. Billed schedule book w.rate before after r };
 
-    ghost last = { λ w. bills_last w.rate };
-
     ghost refused = { λ w. billed w.rate };
-
-    ghost all_refused = { λ w. all_billed w.rate };
 
     fn finish(
         self,
@@ -124,6 +124,12 @@ impl Wanted for Bills {
     }
 }
 
+impl Refuses for Bills {
+    ghost last = { λ w. bills_last w.rate };
+
+    ghost all_refused = { λ w. all_billed w.rate };
+}
+
 // The answers to a list of questions.
 #[derive(Clone, Copy)]
 pub struct Headroom<'a> {
@@ -133,11 +139,7 @@ pub struct Headroom<'a> {
 impl<'a> Wanted for Headroom<'a> {
     ghost promise = { λ w schedule book before after r. Asked schedule book w.questions.now before after r };
 
-    ghost last = { λ w. answers_last w.questions.now };
-
     ghost refused = { λ w. asked w.questions.now };
-
-    ghost all_refused = { λ w. all_asked w.questions.now };
 
     fn finish(
         self,
@@ -166,4 +168,10 @@ impl<'a> Wanted for Headroom<'a> {
             lent,
         )
     }
+}
+
+impl<'a> Refuses for Headroom<'a> {
+    ghost last = { λ w. answers_last w.questions.now };
+
+    ghost all_refused = { λ w. all_asked w.questions.now };
 }
